@@ -2,8 +2,7 @@
 use Rattle.std.proofs.Common.{◌≡◌, ℕ, List, [], ◌∷◌, map, Result, Ok, Err, refl, ap, ◌∙◌}
 use Rattle.std.specs.List.{AllByRecursion}
 use Rattle.status_table.specs.Words.{Ascends, Env, Leg, ValueFault, ended_legs, job_env, job_outputs, laid_over, leg_env, or_below, overlaid, set_over, then_value, value_at}
-use Rattle.board_settled.specs.Contexts.{LastLegWins}
-use Rattle.board_settled.specs.Pairs.{last_giving}
+use Rattle.board_settled.specs.Contexts.{LastLegWins, last_giving}
 use Rattle.board_settled.specs.Variables.{NothingSetIsTheJobs}
 use Rattle.board_settled.proofs.Pairs.{below_through, none_below, nothing-laid, one_found}
 

@@ -9,44 +9,31 @@ use Rattle.status_table.proofs.Entering.{Leads}
 use Rattle.status_table.proofs.Keeps.{Keeps, row_keeps}
 use Rattle.board_decisions.proofs.Lists.{same_some, no_some}
 use Rattle.status_table.proofs.Rows.{row_leads}
+use Rattle.board_settled.proofs.Begins.{either}
 use Rattle.board_settled.proofs.InPlay.{Stands, IsFit}
-use Rattle.board_settled.proofs.LegEvents.{Goes, goes-if, ask_goes, drop_goes, take_goes, begin_goes, end_goes, finish_goes}
+use Rattle.board_settled.proofs.LegEvents.{Goes, ask_goes, drop_goes, take_goes, begin_goes, end_goes, finish_goes}
 use Rattle.board_settled.proofs.RunEvents.{open_goes, close_goes, judge_goes}
 
 -- ---- one entry
 
--- where what an event names is found, its row goes on; else the event is refused
-found-goes : (p : Plan) (answers : Answers) (calls : ℕ → Option StepCall) (b : Board) (e : Event) {At : Type 0} (f : Option At → Row) (o : Option At)
-    → Goes p answers calls b e (f None) → ((at : At) → o ≡ Some at → Goes p answers calls b e (f (Some at))) → Goes p answers calls b e (f o)
-found-goes p answers calls b e f None none some = none
-found-goes p answers calls b e f (Some at) none some = some at refl
+module _ (p : Plan) (fit : IsFit p) (answers : Answers) (calls : ℕ → Option StepCall) (b : Board) (stands : Stands p answers calls b) (worker : ℕ) where
+  -- where what an event names is found, its row goes on; else the event is refused
+  found-goes : (e : Event) {At : Type 0} (f : Option At → Row) (o : Option At) → Goes p answers calls b e (f None) → ((at : At) → o ≡ Some at → Goes p answers calls b e (f (Some at)))
+      → Goes p answers calls b e (f o)
+  found-goes e f None none some = none
+  found-goes e f (Some at) none some = some at refl
 
-event_goes : (p : Plan) (fit : IsFit p) (answers : Answers) (calls : ℕ → Option StepCall) (b : Board) (stands : Stands p answers calls b) (worker : ℕ) (e : Event)
-    → IsAnswered answers calls e → Goes p answers calls b e (event_row p b worker e)
-event_goes p fit answers calls b stands worker (Event.Open r) ok =
-    found-goes p answers calls b (Event.Open r) (rows.open_found b r) (run_at p b r) tt (open_goes p fit answers calls b stands r)
-event_goes p fit answers calls b stands worker (Event.Judge j) ok =
-    found-goes p answers calls b (Event.Judge j) (rows.judge_found b j) (job_at p b j) tt (judge_goes p fit answers calls b stands j)
-event_goes p fit answers calls b stands worker (Event.Ask l) ok =
-    found-goes p answers calls b (Event.Ask l) (rows.ask_found b l) (leg_at p b l) tt (ask_goes p fit answers calls b stands l)
-event_goes p fit answers calls b stands worker (Event.Drop l) ok =
-    found-goes p answers calls b (Event.Drop l) (rows.drop_found b l) (leg_at p b l) tt (drop_goes p fit answers calls b stands l)
-event_goes p fit answers calls b stands worker (Event.Take l) ok =
-    found-goes p answers calls b (Event.Take l) (rows.take_found b worker) (leg_at p b l) tt (λ at is. take_goes p fit answers calls b stands l at is worker)
-event_goes p fit answers calls b stands worker (Event.Begin l) ok =
-    found-goes p answers calls b (Event.Begin l) (rows.begin_found b worker l) (leg_at p b l) tt (λ at is. begin_goes p fit answers calls b stands l at is worker)
-event_goes p fit answers calls b stands worker (Event.End l a) ok =
-    found-goes p answers calls b (Event.End l a) (rows.end_found b worker a) (leg_at p b l) tt (λ at is. end_goes p fit answers calls b stands l at is worker a ok)
-event_goes p fit answers calls b stands worker (Event.Finish l) ok =
-    found-goes p answers calls b (Event.Finish l) (rows.finish_found b worker l) (leg_at p b l) tt (λ at is. finish_goes p fit answers calls b stands l at is worker)
-event_goes p fit answers calls b stands worker (Event.Close r) ok =
-    found-goes p answers calls b (Event.Close r) (rows.close_found b r) (run_at p b r) tt (close_goes p fit answers calls b stands r)
-event_goes p fit answers calls b stands worker (Event.Cancel r) ok = absurd ok
-
-row_goes : (p : Plan) (fit : IsFit p) (answers : Answers) (calls : ℕ → Option StepCall) (b : Board) (stands : Stands p answers calls b) (worker : ℕ) (e : Event)
-    → IsAnswered answers calls e → Goes p answers calls b e (row p b worker e)
-row_goes p fit answers calls b stands worker e ok =
-    goes-if p answers calls b e (nat_le worker 15) (event_row p b worker e) (Err EventFault.NoSuch) (λ _. event_goes p fit answers calls b stands worker e ok) (λ _. tt)
+  event_goes : (e : Event) → IsAnswered answers calls e → Goes p answers calls b e (event_row p b worker e)
+  event_goes (Event.Open r) ok = found-goes (Event.Open r) (rows.open_found b r) (run_at p b r) tt (open_goes p fit answers calls b stands r)
+  event_goes (Event.Judge j) ok = found-goes (Event.Judge j) (rows.judge_found b j) (job_at p b j) tt (judge_goes p fit answers calls b stands j)
+  event_goes (Event.Ask l) ok = found-goes (Event.Ask l) (rows.ask_found b l) (leg_at p b l) tt (ask_goes p fit answers calls b stands l)
+  event_goes (Event.Drop l) ok = found-goes (Event.Drop l) (rows.drop_found b l) (leg_at p b l) tt (drop_goes p fit answers calls b stands l)
+  event_goes (Event.Take l) ok = found-goes (Event.Take l) (rows.take_found b worker) (leg_at p b l) tt (λ at is. take_goes p fit answers calls b stands l at is worker)
+  event_goes (Event.Begin l) ok = found-goes (Event.Begin l) (rows.begin_found b worker l) (leg_at p b l) tt (λ at is. begin_goes p fit answers calls b stands l at is worker)
+  event_goes (Event.End l a) ok = found-goes (Event.End l a) (rows.end_found b worker a) (leg_at p b l) tt (λ at is. end_goes p fit answers calls b stands l at is worker a ok)
+  event_goes (Event.Finish l) ok = found-goes (Event.Finish l) (rows.finish_found b worker l) (leg_at p b l) tt (λ at is. finish_goes p fit answers calls b stands l at is worker)
+  event_goes (Event.Close r) ok = found-goes (Event.Close r) (rows.close_found b r) (run_at p b r) tt (close_goes p fit answers calls b stands r)
+  event_goes (Event.Cancel r) ok = absurd ok
 
 -- ---- lists of entries
 
@@ -60,7 +47,7 @@ pub after_stands : (p : Plan) (fit : IsFit p) (answers : Answers) (es : List Ent
 after_stands p fit answers [] calls b c stands h ok = (calls, subst (Stands p answers calls) (same_some b c h) stands)
 after_stands p fit answers (e ∷ es) calls b c stands h ok =
     step (λ cs d. after_stands p fit answers es cs d c) (row p b e.worker e.event) refl (row_keeps p b e.worker e.event) (row_leads p b e.worker e.event stands.fits.shape)
-    (row_goes p fit answers calls b stands e.worker e.event (ok 0 e refl)) h
+    (either (Goes p answers calls b e.event) (nat_le e.worker 15) (event_row p b e.worker e.event) (Err EventFault.NoSuch) (event_goes p fit answers calls b stands e.worker e.event (ok 0 e refl)) tt) h
   where
     step : ((cs : ℕ → Option StepCall) (d : Board) → Stands p answers cs d → after_from p d es ≡ Some c → AnsweredFrom p answers d cs es → (later : ℕ → Option StepCall) × Stands p answers later c)
         → (r : Row) → row p b e.worker e.event ≡ r → Keeps p b r → Leads p b r → Goes p answers calls b e.event r → then_after r (λ next. after_from p next es) ≡ Some c

@@ -17,7 +17,7 @@ use Rattle.status_table.proofs.Steps.{Live, going-unclosed}
 use Rattle.status_table.proofs.Turnover.{numbered}
 use Rattle.board_settled.proofs.Begins.{by_decision, either}
 use Rattle.board_settled.proofs.Changes.{leg_changes, same_but}
-use Rattle.board_settled.proofs.InPlay.{Stands, IsFit, run_seen}
+use Rattle.board_settled.proofs.InPlay.{Stands, IsFit}
 use Rattle.board_settled.proofs.LegSteps.{and-none, comes_next, step_after}
 use Rattle.board_settled.proofs.Numbers.{before_run, before_job, number_at}
 use Rattle.board_settled.proofs.Played.{CallStands, InCall, LegPlayed, jobs_of, Played, judged-or, JobPlayed, RunPlayed}
@@ -41,11 +41,6 @@ failed-ended s h = refl
 abbrev pub Goes : Plan → Answers → (ℕ → Option StepCall) → Board → Event → Row → Type 0
 Goes p answers calls b e (Ok x) = Stays b x.0 → Played answers p (λ l. call_after l (calls l) e x.1.what) x.0.runs
 Goes p answers calls b e (Err f) = Unit {0}
-
-pub goes-if : (p : Plan) (answers : Answers) (calls : ℕ → Option StepCall) (b : Board) (e : Event) (c : Bool) (r s : Row)
-    → (c ≡ true → Goes p answers calls b e r) → (c ≡ false → Goes p answers calls b e s) → Goes p answers calls b e (if c then r else s)
-goes-if p answers calls b e true r s holds fails = holds refl
-goes-if p answers calls b e false r s holds fails = fails refl
 
 -- ---- one more step of a leg
 
@@ -117,10 +112,9 @@ module _ (p : Plan) (fit : IsFit p) (answers : Answers) (calls : ℕ → Option 
   spot_is live =
       let unclosed = going-unclosed at.run.state live.going in
       let ready = run_played.needs at.place.job at.job_plan at.job here.job_plan here.job (judged-or at.job.state (λ e. true≢false (sym live.opened ∙ ap is_open e))) in
-      let seen = run_seen p fit answers calls b stands at.place.run at.run_plan at.run here.in_plan here.in_board unclosed in
       let board : job_of at ≡ record (job_of at) { board = b } = λ i. record (job_of at) { board = leg_board p b l at is i } in
       let needs : needs_value (job_of at) ≡ needs_of at.run_plan before at.job_plan =
-      ap needs_value board ∙ (needs_settled p b answers calls at.place.run at.run_plan at.run seen at.place.job at.job_plan here.job_plan ready at.job).needs in
+      ap needs_value board ∙ (needs_settled fit stands at.place.run at.run_plan at.run here.in_plan here.in_board unclosed at.place.job at.job_plan here.job_plan ready at.job).needs in
       λ i. record { number = number_is i; run = at.run_plan; job = at.job_plan; place = at.place.leg; needs = needs i }
 
   -- the leg is changed, to one that is played as settled by the calls that are open then
@@ -190,9 +184,9 @@ module _ (p : Plan) (fit : IsFit p) (answers : Answers) (calls : ℕ → Option 
   take_goes worker = by at.leg.state refl
     where
       by : (s : LegState) → at.leg.state ≡ s → Goes p answers calls b (Event.Take l) (rows.take_leg b worker at s)
-      by LegState.Admitted e = goes-if p answers calls b (Event.Take l) (is_stopping at) (Err EventFault.Stopping) (Ok (rows.leg_state_set b at.place (LegState.Running worker false), moved)) (λ _. tt)
-          (λ _. put calls (λ x. record x { state = LegState.Running worker false }) (rows.leg_state_set b at.place (LegState.Running worker false)) refl (λ n _. refl)
-          (live (ap is_under_way e))
+      by LegState.Admitted e =
+          either (Goes p answers calls b (Event.Take l)) (is_stopping at) (Err EventFault.Stopping) (Ok (rows.leg_state_set b at.place (LegState.Running worker false), moved)) tt
+          (put calls (λ x. record x { state = LegState.Running worker false }) (rows.leg_state_set b at.place (LegState.Running worker false)) refl (λ n _. refl) (live (ap is_under_way e))
           (still (calls l) (record at.leg { state = LegState.Running worker false }) refl leg_played.group refl tt refl))
       by s e = tt
 

@@ -1,17 +1,23 @@
 -- The jobs that a job needs, by their ids.
-use Rattle.std.proofs.Common.{◌≡◌, ◌-◌, ℕ, Some, List, map, refl, sym, ap, ◌∙◌}
+use Rattle.std.proofs.Common.{◌≡◌, ◌-◌, ℕ, Option, Some, List, map, refl, sym, ap, ◌∙◌}
 use Rattle.std.specs.List.{filter_map, slice_get}
-use Rattle.status_table.specs.Words.{HaveDistinctNames, JobAt, Plain, first_number, job_beside, need_pair, need_value, needed_job, needs_value}
+use Rattle.status_table.specs.Words.{Board, HaveDistinctNames, Job, JobAt, JobPlace, JobPlan, Plain, Run, RunPlan, first_number, job_beside, need_pair, need_value, needed_job, needs_value, ◌>>=◌}
 use Rattle.board_settled.specs.Contexts.{IsNeeded, NeedsAreDirect}
 use Rattle.board_decisions.proofs.Lists.{map-get}
-use Rattle.board_settled.proofs.InPlay.{found_job}
 use Rattle.board_settled.proofs.Lists.{mapped_from}
 use Rattle.board_settled.proofs.Pairs.{IsIn, in_kept, kept_in, laid_exactly}
 use Rattle.flow_model.proofs.Places.{same_Some}
 
+-- the job at a place is planned there
+planned_by : (b : Board) (run_plan : RunPlan) (run : Run) (place : JobPlace) (o : Option JobPlan) (q : Option Job) (at : JobAt)
+    → (o >>= (λ plan. q >>= (λ job. Some (record { board = b; place = place; run_plan = run_plan; plan = plan; run = run; job = job })))) ≡ Some at → o ≡ Some at.plan
+planned_by b run_plan run place (Some plan) (Some job) at h = ap (λ (x : JobAt). Some x.plan) (same_Some h)
+planned_by b run_plan run place o q at h = absurd (cc)
+
 needed_planned : (at need : JobAt) (number : ℕ) → needed_job at number ≡ Some need → slice_get at.run_plan.jobs (number - first_number at) ≡ Some need.plan
 needed_planned at need number h =
-    (found_job at.board at.run_plan at.run (record { run = at.place.run; job = number - first_number at }) need h).planned
+    planned_by at.board at.run_plan at.run (record { run = at.place.run; job = number - first_number at }) (slice_get at.run_plan.jobs (number - first_number at))
+    (slice_get at.run.jobs (number - first_number at)) need h
 
 -- two jobs of one id that a job needs are one
 needed_once : (at a b : JobAt) (m n : ℕ) → HaveDistinctNames (λ j. Some j.id) at.run_plan.jobs → needed_job at m ≡ Some a → needed_job at n ≡ Some b → a.plan.id ≡ b.plan.id

@@ -1,6 +1,5 @@
 -- The answers that a list records are those of its host.
 use Rattle.std.proofs.Common.{◌≡◌, ◌↔◌, ℕ, zero, suc, ◌==◌, ◌&&◌, Bool, true, false, List, [], ◌∷◌, Option, Some, None, IsTrue, slice_get, if◌then◌else◌, subst, ap, refl, sym, ◌∙◌, arith}
-use Rattle.std.proofs.lemmas.Bool.{true≢false}
 use Rattle.std.proofs.lemmas.Bool.Decides.{nat_tests}
 use Rattle.status_table.specs.Words.{Answer, Board, Entry, Plan, StepCall, after}
 use Rattle.board_settled.specs.Alone.{ByAnswers}
@@ -8,7 +7,7 @@ use Rattle.board_settled.specs.Records.{listed, recorded_answers, TellsSettled}
 use Rattle.board_settled.specs.Agrees.{IsSettled}
 use Rattle.board_settled.specs.Settled.{settled}
 use Rattle.step_host.specs.Replay.{IsRecorded, recorded}
-use Rattle.board_decisions.proofs.Lists.{and-left, and-right, and-both, same_some, no_some}
+use Rattle.board_decisions.proofs.Lists.{and-left, and-right, same_some, no_some}
 use Rattle.step_host.specs.Script.{Line, IsListed}
 
 -- what is given is listed
@@ -23,7 +22,7 @@ is_listed (line ∷ lines) leg step a h = by ((line.0 == leg) && (line.1 == step
         let right = and-right (line.0 == leg) (line.1 == step) is in
         let of_leg : line.0 ≡ leg = grind (arith, nat_tests, left) in
         let of_step : line.1 ≡ step = grind (arith, nat_tests, right) in
-        (0, ap (λ l. Some (l, line.1, line.2)) of_leg ∙ ap (λ s. Some (leg, s, line.2)) of_step ∙ ap (λ (x : Answer). Some (leg, step, x)) (same_some line.2 a e))
+        (0, λ i. Some (of_leg i, of_step i, same_some line.2 a e i))
     by false is e more = let later = more e in (suc later.0, later.1)
 
 -- what is listed is given, or another
@@ -39,9 +38,7 @@ is_given (line ∷ lines) leg step a h is = by ((line.0 == leg) && (line.1 == st
         let same = same_some line (leg, step, a) at in
         let of_leg = ap (λ (x : Line). x.0) same in
         let of_step = ap (λ (x : Line). x.1) same in
-        let left : (line.0 == leg) ≡ true = grind (arith, nat_tests, of_leg) in
-        let right : (line.1 == step) ≡ true = grind (arith, nat_tests, of_step) in
-        true≢false (sym (and-both (line.0 == leg) (line.1 == step) left right) ∙ test)
+        grind (arith, nat_tests, of_leg, of_step, test)
 
 -- ---- a record
 

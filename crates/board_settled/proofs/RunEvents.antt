@@ -9,9 +9,9 @@ use Rattle.status_table.proofs.Found.{RunStands, JobStands, run_stands as run_fo
 use Rattle.status_table.proofs.Sound.{is_numbered_in}
 use Rattle.status_table.proofs.Steps.{going-unclosed}
 use Rattle.board_settled.proofs.Changes.{no_other, run_changes, job_changes}
-use Rattle.board_settled.proofs.InPlay.{Stands, IsFit, job_board, run_seen}
-use Rattle.board_settled.proofs.LegEvents.{Goes, goes-if}
-use Rattle.board_settled.proofs.SettledNeeds.{RunSeen, needs_settled, each_given, each_over}
+use Rattle.board_settled.proofs.InPlay.{Stands, IsFit, job_board}
+use Rattle.board_settled.proofs.LegEvents.{Goes}
+use Rattle.board_settled.proofs.SettledNeeds.{needs_settled, ordered, each_given, each_over}
 use Rattle.board_settled.proofs.Numbers.{before_run, before_job, leg_spot}
 use Rattle.board_settled.proofs.Played.{StateStands, JobPlayedAt, jobs_of, RunPlayed}
 use Rattle.board_settled.proofs.Jobs.{settled_by}
@@ -47,8 +47,7 @@ module _ (p : Plan) (fit : IsFit p) (answers : Answers) (open_calls : ℕ → Op
     -- what all jobs of the run come to
     comes_to : at.run.state ≡ RunState.Going → jobs_have_ended at.run ≡ true → (run_after (jobs_of answers (before_run r p.runs) at.plan)).result ≡ Some (run_result at.run)
     comes_to going ended =
-        let seen = run_seen p fit answers open_calls b stands r at.plan at.run there.plan there.run (ap is_closed going) in
-        ap (option_map jobs_come_to) (each_given p b answers open_calls r at.plan at.run seen ended) ∙ jobs_result at.run run_played.stop
+        ap (option_map jobs_come_to) (each_given fit stands r at.plan at.run there.plan there.run (ap is_closed going) ended) ∙ jobs_result at.run run_played.stop
 
     pub close_goes : Goes p answers open_calls b (Event.Close r) (rows.close_run b r at.run at.run.state)
     close_goes = by at.run.state refl
@@ -62,10 +61,14 @@ module _ (p : Plan) (fit : IsFit p) (answers : Answers) (open_calls : ℕ → Op
             (λ stays. run_changes p b answers open_calls r stands.played at.plan at.run there.plan there.run (closed b r (run_result at.run)) stays
             (λ run. record run { state = RunState.Closed (run_result at.run) }) refl refl run_played.group
             (λ result e. let is : run_result at.run ≡ result = cc e in comes_to going ended ∙ ap (λ (o : Outcome). Some o) is)
-            (λ _. each_over p b answers open_calls r at.plan at.run (run_seen p fit answers open_calls b stands r at.plan at.run there.plan there.run (ap is_closed going)) ended))
+            (λ _. each_over fit stands r at.plan at.run there.plan there.run (ap is_closed going) ended))
 
         by : (s : RunState) → at.run.state ≡ s → Goes p answers open_calls b (Event.Close r) (rows.close_run b r at.run s)
-        by RunState.Going e = goes-if p answers open_calls b (Event.Close r) (jobs_have_ended at.run) (rows.run_closes b r at.run (run_result at.run)) (Err EventFault.NeedsOpen) (λ ended. ends e ended) (λ _. tt)
+        by RunState.Going e = tested (jobs_have_ended at.run) refl
+          where
+            tested : (ended : Bool) → jobs_have_ended at.run ≡ ended → Goes p answers open_calls b (Event.Close r) (if ended then rows.run_closes b r at.run (run_result at.run) else Err EventFault.NeedsOpen)
+            tested true ended = ends e ended
+            tested false ended = tt
         by (RunState.Closed result) e = tt
         by s e = subst (λ stop. Goes p answers open_calls b (Event.Close r) (rows.close_waiting b r at.run stop)) (sym run_played.stop) tt
 
@@ -101,13 +104,13 @@ module _ (p : Plan) (fit : IsFit p) (answers : Answers) (open_calls : ℕ → Op
       ready : needs_have_ended (at.plan.number - at.place.job) at.run at.plan ≡ true
       ready = ap (λ n. needs_have_ended (n - at.place.job) at.run at.plan) number ∙ ended
 
-      seen : RunSeen p b answers open_calls at.place.run at.run_plan at.run
-      seen = run_seen p fit answers open_calls b stands at.place.run at.run_plan at.run found.in_plan found.in_board (going-unclosed at.run.state going)
+      unclosed : is_closed at.run.state ≡ false
+      unclosed = going-unclosed at.run.state going
 
       sees : SeesSettled (rows.first_of j at) before at
       sees = subst₂ (λ n (x : Board). SeesSettled n before (record at { board = x }))
-          (sym (seen.ordered.number at.place.job at.plan found.plan) ∙ ap (λ n. n - at.place.job) number) (sym (job_board p b j at is))
-          (needs_settled p b answers open_calls at.place.run at.run_plan at.run seen at.place.job at.plan found.plan ready at.job)
+          (sym ((ordered fit stands at.place.run at.run_plan at.run found.in_plan found.in_board unclosed).number at.place.job at.plan found.plan) ∙ ap (λ n. n - at.place.job) number) (sym (job_board p b j at is))
+          (needs_settled fit stands at.place.run at.run_plan at.run found.in_plan found.in_board unclosed at.place.job at.plan found.plan ready at.job)
 
       state_stands : StateStands (job_settled answers at.run_plan first before at.plan) (legs_settled answers at.run_plan at.plan (needs_of at.run_plan before at.plan) first)
           (rows.judged_state at.run.stop condition)
@@ -122,7 +125,7 @@ module _ (p : Plan) (fit : IsFit p) (answers : Answers) (open_calls : ℕ → Op
       judged_goes stays =
           let place = leg_spot at.place.run at.place.job 0 in
           job_changes p b answers open_calls open_calls place (no_other p b place open_calls) stands.played at.run_plan at.run found.in_plan found.in_board
-          (rows.job_state_set b at.place (rows.judged_state at.run.stop condition)) stays at.plan at.job found.plan found.job (going-unclosed at.run.state going) (λ job. record job { state = rows.judged_state at.run.stop condition }) refl
+          (rows.job_state_set b at.place (rows.judged_state at.run.stop condition)) stays at.plan at.job found.plan found.job unclosed (λ job. record job { state = rows.judged_state at.run.stop condition }) refl
           (record { state = state_stands; untouched = λ _. job_here.untouched (ap is_open unjudged); legs = job_here.legs }) (λ _. ready)
 
     pub judge_goes : Goes p answers open_calls b (Event.Judge j) (rows.judge_job b at.place (rows.judgement j at))

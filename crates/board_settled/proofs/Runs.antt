@@ -4,15 +4,15 @@ use Rattle.std.specs.List.{flat_map, AllZip}
 use Rattle.std.proofs.lemmas.Bool.{true≢false, le-leb}
 use Rattle.std.proofs.lemmas.List.{length-append, take_more}
 use Rattle.std.proofs.lemmas.Option.{slice_get_within, get_or_from_slice_get}
-use Rattle.status_table.specs.Words.{Board, Each, InPlay, Job, JobAt, JobFits, JobPlan, JobShape, NeedsPointBack, Plan, Run, RunAt, RunFits, RunShape, RunState, StandsAfterNeeds, first_job, job_in_run, run_at, run_result}
+use Rattle.status_table.specs.Words.{Board, Each, InPlay, Job, JobAt, JobFits, JobPlan, JobShape, NeedsPointBack, Plan, Run, RunAt, RunFits, RunShape, RunState, StandsAfterNeeds, first_job, run_at, run_result}
 use Rattle.board_settled.specs.Alone.{SeesSettled}
 use Rattle.board_settled.specs.Quiet.{ended_in_order, quiet_run}
-use Rattle.board_settled.specs.Runs.{IsQuiet, RunStands}
+use Rattle.board_settled.specs.Runs.{IsJobOf, IsQuiet, RunStands}
 use Rattle.board_settled.proofs.Comes.{job_comes}
 use Rattle.board_settled.proofs.Needs.{ComesAt, IsOrdered, board_sees_settled, each_result, jobs_result}
 use Rattle.board_settled.specs.Agrees.{JobIsSettled, RunIsSettled}
 use Rattle.board_settled.specs.Settled.{Answers, SettledJob, SettledRun, jobs_come_to, job_settled, run_settled, leg_count, runs_from}
-use Rattle.board_settled.proofs.InPlay.{FoundJob, found_job, is_ordered}
+use Rattle.board_settled.proofs.InPlay.{is_ordered}
 use Rattle.board_settled.proofs.Lists.{get-take, all-of, mapped_from}
 use Rattle.board_settled.proofs.Loops.{zip-first}
 use Rattle.board_settled.proofs.Numbers.{before_job}
@@ -69,26 +69,23 @@ module _ {r : ℕ} {at : RunAt} (stands : RunStands r at) (back : NeedsPointBack
 
   -- ---- the next job
 
-  module _ (j : ℕ) (x : JobAt) (found : Some x ≡ job_in_run at.board at.plan at.run (record { run = r; job = j })) where
-    job_found : FoundJob at.board at.plan at.run (record { run = r; job = j }) x
-    job_found = found_job at.board at.plan at.run (record { run = r; job = j }) x (sym found)
-
+  module _ {j : ℕ} {x : JobAt} (found : IsJobOf r j at x) where
     pub size_job : length x.job.legs ≡ length x.plan.legs
-    size_job = (zip-get JobShape at.plan.jobs at.run.jobs j x.plan x.job job_found.planned job_found.there shape_here).legs
+    size_job = (zip-get JobShape at.plan.jobs at.run.jobs j x.plan x.job found.planned found.there shape_here).legs
 
     -- it stands after all that it needs
     pub stands_job : (n : ℕ) → n ≡ x.plan.number - j → StandsAfterNeeds n x
-    stands_job n is = subst₂ StandsAfterNeeds (sym (is ∙ ordered.number j x.plan job_found.planned)) (sym job_found.is) (record {
+    stands_job n is = subst₂ StandsAfterNeeds (sym (is ∙ ordered.number j x.plan found.planned)) (sym found.is) (record {
       back = λ k job there. all-of (λ need. nat_le (first_job p r) need && nat_lt need (first_job p r + k)) job.needs (λ i need here.
           let both = (back p stands.board.rules r k at.plan job stands.planned there).1 i need here in
           and-both (nat_le (first_job p r) need) (nat_lt need (first_job p r + k)) (le-leb (first_job p r) need both.0) (le-leb (suc need) (first_job p r + k) both.1));
-      within = slice_get_within at.plan.jobs j x.plan job_found.planned;
+      within = slice_get_within at.plan.jobs j x.plan found.planned;
     })
 
     pub next_number : (first next : ℕ) → next ≡ first + before_job j at.plan.jobs → (more : ℕ) → more ≡ next + length x.job.legs → more ≡ first + before_job (j + 1) at.plan.jobs
     next_number first next next_is more is =
         let size = size_job in
-        let before = before-more at.plan.jobs j x.plan job_found.planned in
+        let before = before-more at.plan.jobs j x.plan found.planned in
         omega (arith, is, size, before, next_is)
 
   pub last_number : (n : ℕ) → length at.run.jobs ≤ n → (first next : ℕ) → next ≡ first + before_job n at.plan.jobs → next ≡ first + leg_count at.plan.jobs
@@ -126,14 +123,11 @@ module _ {r : ℕ} {at : RunAt} (stands : RunStands r at) (back : NeedsPointBack
               (zip-get (JobFits at.run.state at.run.group) at.plan.jobs at.run.jobs i plan job planned there fits_here) given settled;
         }
 
-    module _ (j : ℕ) (x : JobAt) (found : Some x ≡ job_in_run at.board at.plan at.run (record { run = r; job = j })) (n : ℕ) (n_is : n ≡ x.plan.number - j)
+    module _ {j : ℕ} {x : JobAt} (there : IsJobOf r j at x) (n : ℕ) (n_is : n ≡ x.plan.number - j)
         (next : ℕ) (next_is : next ≡ first + before_job j at.plan.jobs) (so_far : JobsAreSettled (take j all) (take j at.run.jobs))
         (yes : Bool) (here : (before : List SettledJob) → SeesSettled n before x → IsTrue yes ↔ JobIsSettled (job_settled answers x.run_plan next before x.plan) x.job.legs x.job.state) where
       abbrev given : SettledJob
       given = job_settled answers at.plan (first + before_job j at.plan.jobs) (take j all) x.plan
-
-      there : FoundJob at.board at.plan at.run (record { run = r; job = j }) x
-      there = job_found j x found
 
       is_given : slice_get all j ≡ Some given
       is_given = job_item answers at.plan first [] at.plan.jobs j x.plan there.planned

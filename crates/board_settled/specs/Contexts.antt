@@ -1,10 +1,14 @@
 -- What the contexts `needs` and `steps` and the outputs of a job give, name by name (GitHub Docs, "Contexts reference").
-use Rattle.std.specs.Prelude.{◌≡◌, ◌↔◌, ℕ, List, [], map, Some, slice_get}
+use Rattle.std.specs.Prelude.{◌≡◌, ◌↔◌, ℕ, List, [], ◌∷◌, map, Option, Some, None, slice_get}
 use Rattle.std.specs.List.{AllByRecursion, zip, filter_map}
-use Rattle.status_table.specs.Words.{Ascends, Board, DoneStep, HaveDistinctNames, JobAt, JobPlace, LegAt, Plain, StepPlan, done_value, ended_legs, job_outputs, laid_over, need_value, needed_job, needs_value, object, step_pair, steps_value, value_at, with_needs}
-use Rattle.board_settled.specs.Pairs.{last_giving}
+use Rattle.status_table.specs.Words.{Ascends, Board, DoneStep, Env, HaveDistinctNames, JobAt, JobPlace, LegAt, Plain, StepPlan, done_value, ended_legs, job_outputs, laid_over, need_value, needed_job, needs_value, object, or_below, step_pair, steps_value, value_at, with_needs}
 
 -- ---- outputs of a job
+
+-- What the last level that has a name has there.
+abbrev pub last_giving : List ℕ → List Env → Option (List ℕ)
+last_giving name [] = None
+last_giving name (level ∷ levels) = or_below (last_giving name levels) (value_at name level)
 
 -- Of the legs that ended with an output of that name, the one that ended last gives it.
 abbrev pub LastLegWins : Type 0

@@ -8,7 +8,6 @@ pub mod Free
 pub mod Grouped
 pub mod Groups
 pub mod Histories
-pub mod Pairs
 pub mod Quiet
 pub mod Records
 pub mod Runs

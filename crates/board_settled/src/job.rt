@@ -55,13 +55,6 @@ fn is_open(state: JobState) -> bool
     matches!(state, JobState::Open)
 }
 
-/// Whether a job was shut with this result.
-fn is_shut_so(state: JobState, how: Outcome) -> bool
-    ensures { IsTrue result ↔ (state ≡ JobState.Shut how) }
-{
-    state == JobState::Shut(how)
-}
-
 /// Whether a job was opened, and its legs are all Ended as settled. Each of them is looked at as if it were alone.
 fn is_open_settled<H: StepHost>(
     alloc: Global,
@@ -123,7 +116,7 @@ pub(crate) fn is_job_settled<H: StepHost>(
 {
     match judged(alloc, first_job, at)? {
         JobState::Open => is_open_settled(alloc, host, first_leg, at),
-        JobState::Shut(how) => Ok(is_shut_so(at.job.state, how)),
+        JobState::Shut(how) => Ok(at.job.state == JobState::Shut(how)),
         JobState::Unjudged => Ok(false),
     }
 }

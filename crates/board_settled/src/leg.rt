@@ -9,7 +9,7 @@ ghost use Rattle.board_settled.specs.Agrees.{LegIsSettled};
 ghost use Rattle.board_settled.specs.Settled.{leg_settled};
 ghost use Rattle.status_table.specs.Row.{answered_step, next_step, outcome_of};
 
-use crate::same::{are_same_steps, is_ended_so};
+use crate::same::are_same_steps;
 use board_decisions::decisions::{job_tolerates, leg_outputs, leg_result};
 use board_decisions::derived::is_failure;
 use board_decisions::place::{LegPlace, SeenJob, SeenLeg};
@@ -166,7 +166,11 @@ fn ends_as(alloc: Global, spot: &LegSpot<'_>, played: &Leg, leg: &Leg) -> Result
     let passed = is_failure(how) && job_tolerates(alloc, &seen)?;
     let outputs = leg_outputs(alloc, &seen)?;
     Ok(
-        is_ended_so(leg.state, how, passed)
+        leg.state
+            == LegState::Ended {
+                result: how,
+                tolerated: passed,
+            }
             && are_same_steps(played.steps.as_slice(), leg.steps.as_slice())
             && is_same_mapping(&outputs, &leg.outputs),
     )

@@ -1,7 +1,6 @@
 //! A run that is held against what is settled.
 
-ghost use Rattle.std.specs.Prelude.{◌≡◌, ◌↔◌, IfOk, IsTrue, option_map};
-ghost use Rattle.board_decisions.specs.Place.{job_in_run};
+ghost use Rattle.std.specs.Prelude.{◌≡◌, ◌↔◌, IfOk, IfSome, IsTrue};
 ghost use Rattle.board_decisions.specs.Seen.{job_seen, run_seen};
 ghost use Rattle.board_settled.specs.Alone.{ByAnswers};
 ghost use Rattle.board_settled.specs.Runs as spec;
@@ -17,8 +16,7 @@ use step_host::StepHost;
 
 /// The job at a place of a run, which has this number.
 fn job_of<'a>(at: &SeenRun<'a>, number: usize, place: usize) -> Option<SeenJob<'a>>
-    ensures { option_map job_seen result
-        ≡ job_in_run at.now.board.now at.now.plan.now at.now.run.now (record { run = number; job = place }) }
+    ensures { IfSome result (λ job. spec.IsJobOf number place (run_seen at.now) (job_seen job)) }
 {
     let plan = item_at(&at.plan.jobs, place)?;
     let job = item_at(&at.run.jobs, place)?;

@@ -1,8 +1,8 @@
-//! Whether two steps that are done, and two ends of legs, are the same.
+//! Whether two steps that are done are the same.
 
 ghost use Rattle.std.specs.Prelude.{◌≡◌, ◌↔◌, IsTrue};
 
-use flow_model::{DoneStep, LegState, Outcome, is_same_mapping};
+use flow_model::{DoneStep, is_same_mapping};
 
 /// Whether two steps that are done are the same.
 fn is_same_step(one: &DoneStep, other: &DoneStep) -> bool
@@ -29,16 +29,4 @@ pub(crate) fn are_same_steps(steps: &[DoneStep], others: &[DoneStep]) -> bool
         rest = more;
     }
     rest.is_empty()
-}
-
-/// Whether a leg is Ended with this result, tolerated or not.
-pub(crate) fn is_ended_so(state: LegState, how: Outcome, passed: bool) -> bool
-    ensures { IsTrue result ↔ (state ≡ LegState.Ended how passed) }
-{
-    let tolerated = passed;
-    state
-        == LegState::Ended {
-            result: how,
-            tolerated,
-        }
 }

@@ -1,6 +1,6 @@
-use Rattle.std.proofs.Common.{sym, ◌∙◌}
+use Rattle.std.proofs.Common.{◌≡◌, ◌↔◌, IsTrue, rules, sym, ◌∙◌}
 use Rattle.std.proofs.lemmas.Result.{IfOk-weaker}
-use Rattle.status_table.specs.Words.{job_seen, needs_value}
+use Rattle.status_table.specs.Words.{JobState, job_seen, needs_value}
 use Rattle.board_settled.proofs.Loops.{through}
 use Rattle.board_settled.proofs.Jobs.{open_settled, shut_settled, settled_open, settled_shut}
 use Rattle.board_settled.specs.Settled.{legs_settled, job_settled}
@@ -18,4 +18,5 @@ pub returns-in-Shut : goal.returns-in-Shut
 returns-in-Shut g c = λ answers are before sees.
     let at = c.args.at.now in
     let is = settled_shut answers c.args.first_job c.args.first_leg before (job_seen at) sees c.requires.goes c.in-Shut.how (sym c.in_ok-judged.ensures ∙ c.in-Shut.is) in
-    through c.is_shut_so.ensures (shut_settled (job_settled answers at.run_plan.now c.args.first_leg before at.plan.now) c.in-Shut.how at.job.now is)
+    let told : IsTrue c.eq.result ↔ (at.job.now.state ≡ JobState.Shut c.in-Shut.how) = search rules in
+    through told (shut_settled (job_settled answers at.run_plan.now c.args.first_leg before at.plan.now) c.in-Shut.how at.job.now is)

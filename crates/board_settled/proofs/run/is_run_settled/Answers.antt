@@ -1,35 +1,29 @@
-use Rattle.std.proofs.Common.{◌≡◌, ◌+◌, ◌≤◌, option_map, length, ap, sym, ◌∙◌, rules}
+use Rattle.std.proofs.Common.{◌≡◌, ◌+◌, ◌≤◌, length, ap, sym, ◌∙◌, rules}
 use Rattle.std.proofs.lemmas.Bool.{true≢false}
-use Rattle.status_table.specs.Words.{RunState, job_seen}
+use Rattle.status_table.specs.Words.{RunState}
 use Rattle.board_settled.proofs.Runs.{size_job, stands_job, run_fails, one_more_job, next_number, run_comes, only_closed, last_number}
 use Rattle.board_settled.proofs.run.is_run_settled.Goals as goal
 
 pub is_job_settled-requires-clause-stands : goal.is_job_settled-requires-clause-stands
 is_job_settled-requires-clause-stands g c κs within =
-    let found = sym (ap (option_map job_seen) c.in-Some.is) ∙ c.job_of.ensures in
-    stands_job c.requires c.needs_point_back.ensures c.loop-place.place (job_seen c.in-Some.job) found
-    c.saturating_sub-first_job.result c.saturating_sub-first_job.ensures
+    stands_job c.requires c.needs_point_back.ensures c.in-Some.ensures c.saturating_sub-first_job.result c.saturating_sub-first_job.ensures
 
 pub is_job_settled-requires-clause-size : goal.is_job_settled-requires-clause-size
-is_job_settled-requires-clause-size g c κs within =
-    let found = sym (ap (option_map job_seen) c.in-Some.is) ∙ c.job_of.ensures in
-    size_job c.requires c.needs_point_back.ensures c.loop-place.place (job_seen c.in-Some.job) found
+is_job_settled-requires-clause-size g c κs within = size_job c.requires c.needs_point_back.ensures c.in-Some.ensures
 
 pub returns-then-not-branch : goal.returns-then-not-branch
 returns-then-not-branch g c = λ answers are.
-    let found = sym (ap (option_map job_seen) c.in-Some.is) ∙ c.job_of.ensures in
-    run_fails c.requires c.needs_point_back.ensures answers c.args.first c.loop-place.place (job_seen c.in-Some.job) found
+    run_fails c.requires c.needs_point_back.ensures answers c.args.first c.in-Some.ensures
     c.saturating_sub-first_job.result c.saturating_sub-first_job.ensures c.loop-place.next c.loop-place.invariant.number (c.loop-place.invariant.jobs answers are)
     c.in_ok-is_job_settled.field-0 (λ before sees. c.in_ok-is_job_settled.ensures answers are before sees) c.if-not-branch.true
 
 pub loop-place-preserved : goal.loop-place-preserved
 loop-place-preserved g c =
-    let found = sym (ap (option_map job_seen) c.in-Some.is) ∙ c.job_of.ensures in
     let more : c.in-Some-checked_add.more ≡ c.loop-place.next + length c.in-Some.job.job.now.legs = search rules in
     record {
-      number = next_number c.requires c.needs_point_back.ensures c.loop-place.place (job_seen c.in-Some.job) found c.args.first c.loop-place.next c.loop-place.invariant.number c.in-Some-checked_add.more more;
+      number = next_number c.requires c.needs_point_back.ensures c.in-Some.ensures c.args.first c.loop-place.next c.loop-place.invariant.number c.in-Some-checked_add.more more;
       jobs = λ answers are.
-          one_more_job c.requires c.needs_point_back.ensures answers c.args.first c.loop-place.place (job_seen c.in-Some.job) found
+          one_more_job c.requires c.needs_point_back.ensures answers c.args.first c.in-Some.ensures
           c.saturating_sub-first_job.result c.saturating_sub-first_job.ensures c.loop-place.next c.loop-place.invariant.number (c.loop-place.invariant.jobs answers are)
           c.in_ok-is_job_settled.field-0 (λ before sees. c.in_ok-is_job_settled.ensures answers are before sees) c.if-not-branch.false;
     }
@@ -37,8 +31,7 @@ loop-place-preserved g c =
 pub returns-then-not-is_closed_so : goal.returns-then-not-is_closed_so
 returns-then-not-is_closed_so g c = λ answers are settled.
     let through : length c.args.at.now.run.now.jobs ≤ c.loop-place.place = search rules in
-    let is = only_closed c.requires c.needs_point_back.ensures answers c.args.first c.loop-place.place through
-    (c.loop-place.invariant.jobs answers are) settled in
+    let is = only_closed c.requires c.needs_point_back.ensures answers c.args.first c.loop-place.place through (c.loop-place.invariant.jobs answers are) settled in
     true≢false (sym (c.is_closed_so.ensures.1 (is ∙ ap (λ o. RunState.Closed o) (sym c.run_result.ensures))) ∙ c.if-not-is_closed_so.true)
 
 pub returns : goal.returns
