@@ -3,8 +3,7 @@ use Rattle.std.proofs.Common.{◌≡◌, ℕ, ◌&&◌, ◌||◌, true, false, L
 use Rattle.std.specs.List.{list_any, AllZip}
 use Rattle.std.proofs.lemmas.Bool.{true≢false}
 use Rattle.status_table.specs.Words.{Board, Env, Job, JobFits, JobPlace, JobPlan, JobState, Leg, LegState, Plan, Run, RunPlan, goes_rightly, has_failed, is_cancelled, is_ended, is_fresh, is_open, job_outputs, job_result, laid_over, overlaid, result_by, was_cancelled}
-use Rattle.board_settled.proofs.Ordered.{none_ended, all_ended}
-use Rattle.board_settled.proofs.Outputs.{JobThere}
+use Rattle.board_settled.proofs.Outputs.{none_ended, all_ended, JobThere}
 use Rattle.board_settled.specs.Quiet.{ended_in_order}
 use Rattle.board_settled.specs.Agrees.{LegIsSettled, JobIsSettled}
 use Rattle.board_settled.specs.Settled.{Finish, SettledLeg, SettledJob, opened, all_given, fails, worst, legs_come_to, result_of, given_by, outputs_of_job}

@@ -10,7 +10,7 @@ use Rattle.status_table.proofs.Keeps.{Keeps, row_keeps}
 use Rattle.board_decisions.proofs.Lists.{same_some, no_some}
 use Rattle.status_table.proofs.Rows.{row_leads}
 use Rattle.board_settled.proofs.Begins.{either}
-use Rattle.board_settled.proofs.InPlay.{Stands, IsFit}
+use Rattle.board_settled.proofs.Played.{Stands, IsFit}
 use Rattle.board_settled.proofs.LegEvents.{Goes, ask_goes, drop_goes, take_goes, begin_goes, end_goes, finish_goes}
 use Rattle.board_settled.proofs.RunEvents.{open_goes, close_goes, judge_goes}
 

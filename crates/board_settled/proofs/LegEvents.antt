@@ -17,10 +17,9 @@ use Rattle.status_table.proofs.Steps.{Live, going-unclosed}
 use Rattle.status_table.proofs.Turnover.{numbered}
 use Rattle.board_settled.proofs.Begins.{by_decision, either}
 use Rattle.board_settled.proofs.Changes.{leg_changes, same_but}
-use Rattle.board_settled.proofs.InPlay.{Stands, IsFit}
+use Rattle.board_settled.proofs.Played.{Stands, IsFit, CallStands, InCall, LegPlayed, jobs_of, Played, judged-or, JobPlayed, RunPlayed}
 use Rattle.board_settled.proofs.LegSteps.{and-none, comes_next, step_after}
 use Rattle.board_settled.proofs.Numbers.{before_run, before_job, number_at}
-use Rattle.board_settled.proofs.Played.{CallStands, InCall, LegPlayed, jobs_of, Played, judged-or, JobPlayed, RunPlayed}
 use Rattle.board_settled.proofs.Seen.{spot_of, call_is, finish_is}
 use Rattle.std.specs.List.{list_any}
 use Rattle.board_settled.specs.Free.{JobIsFree}

@@ -17,7 +17,7 @@ abbrev pub before_run : ℕ → List RunPlan → ℕ
 before_run (suc i) (run ∷ runs) = leg_count run.jobs + before_run i runs
 before_run i runs = 0
 
-count-cons : (job : JobPlan) (jobs : List JobPlan) → leg_count (job ∷ jobs) ≡ length job.legs + leg_count jobs
+pub count-cons : (job : JobPlan) (jobs : List JobPlan) → leg_count (job ∷ jobs) ≡ length job.legs + leg_count jobs
 count-cons job jobs = length-append job.legs (flat_map (λ (j : JobPlan). j.legs) jobs)
 
 -- ---- the number of what is found at a place

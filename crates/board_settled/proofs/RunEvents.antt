@@ -9,11 +9,10 @@ use Rattle.status_table.proofs.Found.{RunStands, JobStands, run_stands as run_fo
 use Rattle.status_table.proofs.Sound.{is_numbered_in}
 use Rattle.status_table.proofs.Steps.{going-unclosed}
 use Rattle.board_settled.proofs.Changes.{no_other, run_changes, job_changes}
-use Rattle.board_settled.proofs.InPlay.{Stands, IsFit, job_board}
+use Rattle.board_settled.proofs.Played.{Stands, IsFit, job_board, StateStands, JobPlayedAt, jobs_of, RunPlayed}
 use Rattle.board_settled.proofs.LegEvents.{Goes}
 use Rattle.board_settled.proofs.SettledNeeds.{needs_settled, ordered, each_given, each_over}
 use Rattle.board_settled.proofs.Numbers.{before_run, before_job, leg_spot}
-use Rattle.board_settled.proofs.Played.{StateStands, JobPlayedAt, jobs_of, RunPlayed}
 use Rattle.board_settled.proofs.Jobs.{settled_by}
 use Rattle.board_settled.proofs.Needs.{jobs_result}
 use Rattle.board_settled.specs.Alone.{SeesSettled}

@@ -1,8 +1,8 @@
 -- A run on a quiet board beside what is settled of it.
 use Rattle.std.proofs.Common.{◌≡◌, ◌↔◌, ℕ, zero, suc, ◌+◌, ◌-◌, ◌<◌, ◌≤◌, ◌&&◌, Bool, true, false, List, [], ◌∷◌, ◌++◌, Some, option_map, length, map, take, drop, slice_get, nat_le, nat_lt, IsTrue, ap, subst, subst₂, sym, refl, ◌∙◌, arith, take_all}
-use Rattle.std.specs.List.{flat_map, AllZip}
+use Rattle.std.specs.List.{AllZip}
 use Rattle.std.proofs.lemmas.Bool.{true≢false, le-leb}
-use Rattle.std.proofs.lemmas.List.{length-append, take_more}
+use Rattle.std.proofs.lemmas.List.{take_more}
 use Rattle.std.proofs.lemmas.Option.{slice_get_within, get_or_from_slice_get}
 use Rattle.status_table.specs.Words.{Board, Each, InPlay, Job, JobAt, JobFits, JobPlan, JobShape, NeedsPointBack, Plan, Run, RunAt, RunFits, RunShape, RunState, StandsAfterNeeds, first_job, run_at, run_result}
 use Rattle.board_settled.specs.Alone.{SeesSettled}
@@ -12,11 +12,10 @@ use Rattle.board_settled.proofs.Comes.{job_comes}
 use Rattle.board_settled.proofs.Needs.{ComesAt, IsOrdered, board_sees_settled, each_result, jobs_result}
 use Rattle.board_settled.specs.Agrees.{JobIsSettled, RunIsSettled}
 use Rattle.board_settled.specs.Settled.{Answers, SettledJob, SettledRun, jobs_come_to, job_settled, run_settled, leg_count, runs_from}
-use Rattle.board_settled.proofs.InPlay.{is_ordered}
+use Rattle.board_settled.proofs.Played.{is_ordered, jobs_of, jobs_size, job_item}
 use Rattle.board_settled.proofs.Lists.{get-take, all-of, mapped_from}
 use Rattle.board_settled.proofs.Loops.{zip-first}
-use Rattle.board_settled.proofs.Numbers.{before_job}
-use Rattle.board_settled.proofs.Played.{jobs_of, jobs_size, job_item}
+use Rattle.board_settled.proofs.Numbers.{before_job, count-cons}
 use Rattle.flow_model.proofs.Places.{slice_get_there}
 use Rattle.status_table.proofs.Counts.{zip-left}
 use Rattle.status_table.proofs.Found.{run_stands}
@@ -49,7 +48,7 @@ before-all [] (suc n) h = refl
 before-all (j ∷ js) zero h = absurd (omega (arith, h))
 before-all (j ∷ js) (suc n) h =
     let later = before-all js n (omega (arith, h)) in
-    let all = length-append j.legs (flat_map (λ (x : JobPlan). x.legs) js) in
+    let all = count-cons j js in
     omega (arith, later, all)
 
 -- ---- a run

@@ -1,6 +1,6 @@
 -- What a board shows of a place is what is seen by the plan, the needs and the steps that are done.
 use Rattle.std.proofs.Common.{◌≡◌, ℕ, ◌&&◌, Some, [], ap, refl, ◌∙◌}
-use Rattle.status_table.specs.Words.{Context, JobAt, LegAt, Outcome, Plain, Status, StepPlan, TextPlace, Values, condition_value, contexts_at, failure_of, flow_env, is_failure, job_condition, job_env, job_of, job_tolerates, job_values, leg_env, leg_outputs, leg_result, leg_status, leg_values, leg_values_by, matrix_value, needs_value, run_values, seen_from, status_of, step_decision, step_env, step_tolerates, steps_value, strategy_value, with_env}
+use Rattle.status_table.specs.Words.{Context, JobAt, LegAt, Outcome, Plain, Status, StepPlan, TextPlace, Values, condition_value, contexts_at, failure_of, flow_env, is_failure, job_condition, job_env, job_of, job_tolerates, job_values, leg_env, leg_outputs, leg_result, leg_values, leg_values_by, matrix_value, needs_value, run_values, seen_from, status_of, step_decision, step_env, step_tolerates, steps_value, strategy_value, with_env}
 use Rattle.board_settled.specs.Decided.{step_call, step_passes, leg_passes, outputs_of_leg, failure_counts}
 use Rattle.board_settled.specs.Sees.{Spot, Sight, sight, job_sees, leg_sees, strategy_shown, matrix_shown, steps_shown}
 use Rattle.board_settled.specs.Settled.{counts, seen_after, next_call, finish_of}
@@ -49,9 +49,7 @@ module _ (l : ℕ) (at : LegAt) (quiet : leg_result at ≡ counts at.leg.steps) 
   -- what beginning the next step comes to
   pub call_is : (step : StepPlan) → step_decision l at step ≡ next_call (spot_of l at) at.leg.steps step
   unfolding next_call step_call step_decision step_env leg_env job_env flow_env
-  call_is step =
-      ap (λ (sees : Sight). step_call sees (leg_status at) at.run_plan at.job_plan l at.leg.steps step) sight_is
-      ∙ ap (λ (r : Outcome). step_call (seen_after (spot_of l at) at.leg.steps) (status_of r) at.run_plan at.job_plan l at.leg.steps step) quiet
+  call_is step = λ i. step_call (sight_is i) (status_of (quiet i)) at.run_plan at.job_plan l at.leg.steps step
 
   -- how a failure of the next step counts
   pub failure_is : (step : StepPlan) → failure_of at (Some step) ≡ failure_counts (seen_after (spot_of l at) at.leg.steps) at.run_plan at.job_plan at.leg.steps step

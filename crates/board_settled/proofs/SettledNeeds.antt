@@ -12,11 +12,10 @@ use Rattle.status_table.proofs.Lists.{zip-get, zip-length, all-get}
 use Rattle.board_settled.proofs.Ends.{job_ended, is_over}
 use Rattle.flow_model.proofs.Places.{slice_get_there}
 use Rattle.board_settled.proofs.Lists.{all-of}
-use Rattle.board_settled.proofs.InPlay.{IsFit, Stands, is_ordered}
+use Rattle.board_settled.proofs.Played.{IsFit, Stands, is_ordered, JobOver, jobs_of, RunPlayed, jobs_size, job_item}
 use Rattle.board_settled.proofs.Needs.{ComesAt, IsOrdered, Reached, each_result, ready_at, sees_settled}
 use Rattle.board_settled.proofs.Numbers.{before_run, before_job}
 use Rattle.board_settled.proofs.Outputs.{JobThere}
-use Rattle.board_settled.proofs.Played.{JobOver, jobs_of, RunPlayed, jobs_size, job_item}
 
 some_got : {A : Type 0} (f : A → Bool) (o : Option A) → holds (option_map f o) ≡ true → (x : A) × (o ≡ Some x) × (f x ≡ true)
 some_got f None h = absurd (true≢false (sym h))

@@ -8,7 +8,6 @@ use plan_values::{env_has_its_names, levels_stay_in_order};
 /// likewise; and of the workflow's and the job's variables, what done steps set, and the
 /// step's own it has the most specific. The maps of the plan and of the done steps are in
 /// order, as each `Mapping` is.
-#[tactic(auto, using(crate::proofs::Called::calls_are_in_order, crate::proofs::Called::calls_are_most_specific))]
 pub fn calls_are_in_order()
     ensures order { CallsAreInOrder }
     ensures levels { CallsAreMostSpecific }

@@ -3,7 +3,7 @@
 ghost use Rattle.board_settled.specs.Contexts.{LastLegWins, NeedsAreDirect, StepsAreDone};
 
 /// Of the legs of a job that ended with an output of that name, the one that ended last gives it.
-#[tactic(auto, using(crate::proofs::Giving::last_leg_wins))]
+#[tactic(auto, using(crate::proofs::Named::last_leg_wins))]
 pub fn last_leg_wins()
     ensures { LastLegWins }
 {}

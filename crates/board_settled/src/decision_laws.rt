@@ -23,7 +23,6 @@ pub fn statuses_tell_of_ancestors()
 
 /// After a step of a leg that counts as a failure, a step whose
 /// condition names no status function is never in a call.
-#[tactic(auto, using(crate::proofs::Decided::no_call_after_failure))]
 pub fn no_call_after_failure()
     ensures { NoCallAfterFailure }
 {

@@ -48,13 +48,6 @@ fn are_legs_settled<H: StepHost>(
     Ok(true)
 }
 
-/// Whether a job was opened.
-fn is_open(state: JobState) -> bool
-    ensures { IsTrue result ↔ (state ≡ JobState.Open) }
-{
-    matches!(state, JobState::Open)
-}
-
 /// Whether a job was opened, and its legs are all Ended as settled. Each of them is looked at as if it were alone.
 fn is_open_settled<H: StepHost>(
     alloc: Global,
@@ -68,7 +61,7 @@ fn is_open_settled<H: StepHost>(
         (λ answers. IsTrue yes ↔ spec.IsOpened (legs_settled answers at.now.run_plan.now
         at.now.plan.now (needs_value (job_seen at.now)) first) at.now.job.now)) }
 {
-    if !is_open(at.job.state) {
+    if at.job.state != JobState::Open {
         return Ok(false);
     }
     let nobody = Job {

@@ -53,7 +53,7 @@ fn note_ended(board: &Board, number: usize, made: &mut Sequence<u64>) -> Result<
 }
 
 /// The numbers below a count whose legs are Ended.
-#[tactic(auto, using(crate::proofs::Ordered::filter_more))]
+#[tactic(auto, using(crate::proofs::Outputs::filter_more))]
 fn ended_below(alloc: Global, board: &Board, count: usize) -> Result<Sequence<u64>, AllocError>
     ensures { IfOk result (λ made. made
         ≡ filter (spec.has_ended_at board.now) (numbers count)) }

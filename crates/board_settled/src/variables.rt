@@ -18,7 +18,7 @@ pub fn last_to_set_wins(plan: &Plan, steps: &[DoneStep])
 }
 
 /// Where no step sets anything, a leg sees the variables of its job.
-#[tactic(auto, using(crate::proofs::Giving::nothing_set))]
+#[tactic(auto, using(crate::proofs::Named::nothing_set))]
 pub fn nothing_set_is_the_jobs()
     ensures { NothingSetIsTheJobs }
 {}

@@ -1,4 +1,4 @@
-use Rattle.board_settled.proofs.NamedNeeds.{needs_are_direct}
+use Rattle.board_settled.proofs.Named.{needs_are_direct}
 use Rattle.board_settled.proofs.contexts.needs_are_direct.Goals as goal
 
 pub returns : goal.returns

@@ -1,4 +1,4 @@
-use Rattle.board_settled.proofs.NamedSteps.{steps_are_done}
+use Rattle.board_settled.proofs.Named.{steps_are_done}
 use Rattle.board_settled.proofs.contexts.steps_are_done.Goals as goal
 
 pub returns : goal.returns

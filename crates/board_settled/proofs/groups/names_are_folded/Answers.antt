@@ -1,4 +1,4 @@
-use Rattle.board_settled.proofs.Folded.{names_are_folded, one_holder}
+use Rattle.board_settled.proofs.Grouped.{names_are_folded, one_holder}
 use Rattle.board_settled.proofs.groups.names_are_folded.Goals as goal
 
 pub returns-clause-folded : goal.returns-clause-folded

@@ -1,4 +1,4 @@
-use Rattle.board_settled.proofs.SameBoards.{only_ends_differ}
+use Rattle.board_settled.proofs.Agreeing.{only_ends_differ}
 use Rattle.board_settled.proofs.settled_laws.order_changes_only_the_ends.Goals as goal
 
 pub returns : goal.returns
