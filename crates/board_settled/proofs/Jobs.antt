@@ -1,5 +1,5 @@
 -- A job and its legs on a board beside what is settled of them.
-use Rattle.std.proofs.Common.{◌≡◌, ◌↔◌, ℕ, suc, ◌+◌, ◌<◌, Bool, true, false, List, ◌∷◌, Result, Ok, length, drop, get_or, if◌then◌else◌, ap, subst, sym, refl, ◌∙◌, arith}
+use Rattle.std.proofs.Common.{◌≡◌, ◌↔◌, ℕ, suc, ◌+◌, ◌<◌, Bool, true, false, List, ◌∷◌, Result, Ok, length, drop, get_or, if◌then◌else◌, ap, subst, subst₂, sym, refl, ◌∙◌, arith}
 use Rattle.std.specs.List.{AllZip}
 use Rattle.status_table.specs.Words.{Job, JobAt, JobState, Leg, Outcome, Status, ValueFault, ancestors_status, job_condition, job_results, job_status, judged_state, needs_value}
 use Rattle.board_settled.specs.Alone.{SeesSettled, IsOpened, planned}
@@ -8,6 +8,7 @@ use Rattle.flow_model.proofs.Places.{slice_get_there}
 use Rattle.board_settled.proofs.Loops.{zip-first}
 use Rattle.board_settled.specs.Agrees.{LegIsSettled, JobIsSettled}
 use Rattle.board_settled.specs.Settled.{Answers, SettledLeg, SettledJob, unsettled, shut, opened, leg_settled, legs_from, legs_settled, needs_of, status_after, condition_after, judged, job_settled}
+use Rattle.board_settled.proofs.Played.{StateStands}
 use Rattle.board_settled.proofs.Seen.{job_condition_is}
 use Rattle.status_table.proofs.Standings.{drop_at}
 
@@ -46,13 +47,9 @@ shut_settled given how job is = (λ h. subst (JobIsSettled given job.legs) (sym 
     by JobState.Open e h = absurd (cc (h.1, is))
     by (JobState.Shut result) e h = cc (e, h, is)
 
-opens : (x : Result Bool ValueFault) (legs : List SettledLeg) → judged_state false x ≡ JobState.Open → judged x legs ≡ opened legs
-opens (Ok true) legs h = refl
-opens x legs h = cc
-
-shuts : (x : Result Bool ValueFault) (legs : List SettledLeg) (how : Outcome) → judged_state false x ≡ JobState.Shut how → judged x legs ≡ shut how
-shuts (Ok true) legs how h = cc
-shuts x legs how h = cc
+stands_by : (x : Result Bool ValueFault) (legs : List SettledLeg) → StateStands (judged x legs) legs (judged_state false x)
+stands_by (Ok true) legs = refl
+stands_by x legs = refl
 
 module _ (answers : Answers) (first_job first_leg : ℕ) (before : List SettledJob) (at : JobAt) (sees : SeesSettled first_job before at) (goes : at.run.stop ≡ false) where
   abbrev pub condition : Result Bool ValueFault
@@ -68,13 +65,10 @@ module _ (answers : Answers) (first_job first_leg : ℕ) (before : List SettledJ
       ap (λ c. if c then Status.Cancelled else ancestors_status first_job at.run_plan.jobs (job_results at.run) at.place.job) goes ∙ sees.status in
       sym (ap (job_condition at) status_is ∙ job_condition_is at (needs_of at.run_plan before at.plan) (status_after at.run_plan before at.plan) sees.needs)
 
-  pub settled_by : job_settled answers at.run_plan first_leg before at.plan ≡ judged condition legs
+  settled_by : job_settled answers at.run_plan first_leg before at.plan ≡ judged condition legs
   unfolding job_settled
-  settled_by =
-      (λ i. if sees.given i then judged (condition_same i) (legs_settled answers at.run_plan at.plan (sym sees.needs i) first_leg) else unsettled)
+  settled_by = λ i. if sees.given i then judged (condition_same i) (legs_settled answers at.run_plan at.plan (sym sees.needs i) first_leg) else unsettled
 
-  pub settled_open : judged_state false condition ≡ JobState.Open → job_settled answers at.run_plan first_leg before at.plan ≡ opened legs
-  settled_open h = settled_by ∙ opens condition legs h
-
-  pub settled_shut : (how : Outcome) → judged_state false condition ≡ JobState.Shut how → job_settled answers at.run_plan first_leg before at.plan ≡ shut how
-  settled_shut how h = settled_by ∙ shuts condition legs how h
+  -- it is in the state into which it is settled to be judged, if it is in the one into which it is judged
+  pub judged_stands : (s : JobState) → judged_state false condition ≡ s → StateStands (job_settled answers at.run_plan first_leg before at.plan) legs s
+  judged_stands s is = subst₂ (λ (x : SettledJob) t. StateStands x legs t) (sym settled_by) is (stands_by condition legs)

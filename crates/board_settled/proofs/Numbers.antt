@@ -26,11 +26,11 @@ InJobs : ℕ → ℕ → List JobPlan → ℕ → Result LegPlace ℕ → Type 0
 InJobs r k plans n (Ok at) = (i : ℕ) × (at.run ≡ r) × (at.job ≡ k + i) × (n ≡ before_job i plans + at.leg)
 InJobs r k plans n (Err m) = n ≡ leg_count plans + m
 
-later_in_jobs : (r k : ℕ) (plan : JobPlan) (plans : List JobPlan) (n : ℕ) (found : Result LegPlace ℕ) → length plan.legs ≤ n
-    → InJobs r (suc k) plans (n - length plan.legs) found → InJobs r k (plan ∷ plans) n found
+later_in_jobs : (r k : ℕ) (plan : JobPlan) (plans : List JobPlan) (n past : ℕ) (found : Result LegPlace ℕ) → past ≡ length plan.legs → past ≤ n
+    → InJobs r (suc k) plans (n - past) found → InJobs r k (plan ∷ plans) n found
 unfolding InJobs
-later_in_jobs r k plan plans n (Ok at) le h = (suc h.0, h.1, omega (arith, h.2), omega (arith, h.3, le))
-later_in_jobs r k plan plans n (Err m) le h = let all = count-cons plan plans in omega (arith, h, all, le)
+later_in_jobs r k plan plans n past (Ok at) many le h = (suc h.0, h.1, omega (arith, h.2), omega (arith, h.3, le, many))
+later_in_jobs r k plan plans n past (Err m) many le h = let all = count-cons plan plans in omega (arith, h, all, le, many)
 
 in_jobs : (r k : ℕ) (plans : List JobPlan) (jobs : List Job) (n : ℕ) → AllZip JobShape plans jobs → InJobs r k plans n (leg_in_jobs r k jobs n)
 unfolding InJobs
@@ -41,21 +41,19 @@ in_jobs r k (plan ∷ plans) (job ∷ jobs) n shape = step (in_jobs r (suc k) pl
         → InJobs r k (plan ∷ plans) n (if c then Ok (record { run = r; job = k; leg = n }) else leg_in_jobs r (suc k) jobs (n - length job.legs))
     step later true is = (0, refl, omega arith, omega arith)
     step later false is =
-        let as_many : length job.legs ≡ length plan.legs = shape.0.legs in
         let past : length job.legs ≤ n = grind (arith, is) in
-        later_in_jobs r k plan plans n (leg_in_jobs r (suc k) jobs (n - length job.legs)) (omega (arith, past, as_many))
-        (subst (λ (len : ℕ). InJobs r (suc k) plans (n - len) (leg_in_jobs r (suc k) jobs (n - length job.legs))) as_many later)
+        later_in_jobs r k plan plans n (length job.legs) (leg_in_jobs r (suc k) jobs (n - length job.legs)) shape.0.legs past later
 in_jobs r k plans jobs n shape = absurd shape
 
 InRuns : ℕ → List RunPlan → ℕ → Option LegPlace → Type 0
 InRuns k plans n (Some at) = (i : ℕ) × (at.run ≡ k + i) × ((plan : RunPlan) → slice_get plans i ≡ Some plan → n ≡ before_run i plans + before_job at.job plan.jobs + at.leg)
 InRuns k plans n None = Unit {0}
 
-later_in_runs : (k : ℕ) (plan : RunPlan) (plans : List RunPlan) (n : ℕ) (found : Option LegPlace) → leg_count plan.jobs ≤ n
-    → InRuns (suc k) plans (n - leg_count plan.jobs) found → InRuns k (plan ∷ plans) n found
+later_in_runs : (k : ℕ) (plan : RunPlan) (plans : List RunPlan) (n left : ℕ) (found : Option LegPlace) → n ≡ leg_count plan.jobs + left
+    → InRuns (suc k) plans left found → InRuns k (plan ∷ plans) n found
 unfolding InRuns
-later_in_runs k plan plans n (Some at) le h = (suc h.0, omega (arith, h.1), λ q is. let e = h.2 q is in omega (arith, e, le))
-later_in_runs k plan plans n None le h = tt
+later_in_runs k plan plans n left (Some at) is h = (suc h.0, omega (arith, h.1), λ q there. let e = h.2 q there in omega (arith, e, is))
+later_in_runs k plan plans n left None is h = tt
 
 in_runs : (k : ℕ) (plans : List RunPlan) (runs : List Run) (n : ℕ) → AllZip RunShape plans runs → InRuns k plans n (leg_place_from k runs n)
 unfolding InRuns InJobs
@@ -73,9 +71,7 @@ in_runs k (plan ∷ plans) (run ∷ runs) n shape =
               let same : before_job h.0 plan.jobs ≡ before_job at.job q.jobs = ap (λ i. before_job i plan.jobs) at_job ∙ ap (λ (x : RunPlan). before_job at.job x.jobs) (same_some plan q is) in
               omega (arith, h.3, same),
         )
-    step later (Err m) h =
-        let is : m ≡ n - leg_count plan.jobs = omega (arith, h) in
-        later_in_runs k plan plans n (leg_place_from (suc k) runs m) (omega (arith, h)) (subst (λ (i : ℕ). InRuns (suc k) plans i (leg_place_from (suc k) runs m)) is (later m))
+    step later (Err m) h = later_in_runs k plan plans n m (leg_place_from (suc k) runs m) h (later m)
 in_runs k plans runs n shape = absurd shape
 
 -- the number of a leg, by its place

@@ -1,8 +1,8 @@
 -- The events of runs and jobs keep what is played as settled.
 use Rattle.std.proofs.Common.{◌≡◌, ℕ, ◌+◌, ◌-◌, Bool, true, false, List, Option, Some, None, Result, Ok, Err, option_map, take, if◌then◌else◌, ap, subst, subst₂, sym, refl, ◌∙◌}
 use Rattle.std.proofs.lemmas.Bool.{true≢false}
-use Rattle.status_table.specs.Words.{Board, Entrance, Event, JobAt, JobState, Member, Outcome, Plain, Plan, Reply, RunAt, RunState, StepCall, ValueFault, admitted, closed, holding, is_closed, is_going, is_open, job_at, job_condition, job_status, jobs_have_ended, leaves, moved, needs_have_ended, needs_value, run_at, run_entrance, run_result, run_standing, run_stands}
-use Rattle.board_settled.specs.Settled.{Answers, SettledLeg, SettledJob, jobs_come_to, needs_of, judged, legs_settled, job_settled, run_after}
+use Rattle.status_table.specs.Words.{Board, Entrance, Event, JobAt, JobState, Member, Outcome, Plain, Plan, Reply, RunAt, RunState, StepCall, ValueFault, admitted, closed, holding, is_closed, is_going, is_open, job_at, job_condition, job_status, jobs_have_ended, leaves, moved, needs_have_ended, run_at, run_entrance, run_result, run_standing, run_stands}
+use Rattle.board_settled.specs.Settled.{Answers, SettledJob, jobs_come_to, needs_of, legs_settled, job_settled, run_after}
 use Rattle.status_table.specs.declared.fault.EventFault.{EventFault}
 use Rattle.status_table.specs.Row as rows
 use Rattle.status_table.proofs.Found.{RunStands, JobStands, run_stands as run_found, job_stands as job_found}
@@ -13,7 +13,7 @@ use Rattle.board_settled.proofs.Played.{Stands, IsFit, job_board, StateStands, J
 use Rattle.board_settled.proofs.LegEvents.{Goes}
 use Rattle.board_settled.proofs.SettledNeeds.{needs_settled, ordered, each_given, each_over}
 use Rattle.board_settled.proofs.Numbers.{before_run, before_job, leg_spot}
-use Rattle.board_settled.proofs.Jobs.{settled_by}
+use Rattle.board_settled.proofs.Jobs.{judged_stands}
 use Rattle.board_settled.proofs.Needs.{jobs_result}
 use Rattle.board_settled.specs.Alone.{SeesSettled}
 
@@ -95,10 +95,6 @@ module _ (p : Plan) (fit : IsFit p) (answers : Answers) (open_calls : ℕ → Op
     abbrev condition : Result Bool ValueFault
     condition = job_condition at (job_status (rows.first_of j at) at)
 
-    stands_by : (x : Result Bool ValueFault) (legs : List SettledLeg) → StateStands (judged x legs) legs (rows.judged_state false x)
-    stands_by (Ok true) legs = refl
-    stands_by x legs = refl
-
     module _ (going : is_going at.run.state ≡ true) (unjudged : at.job.state ≡ JobState.Unjudged) (ended : needs_have_ended (rows.first_of j at) at.run at.plan ≡ true) where
       ready : needs_have_ended (at.plan.number - at.place.job) at.run at.plan ≡ true
       ready = ap (λ n. needs_have_ended (n - at.place.job) at.run at.plan) number ∙ ended
@@ -114,11 +110,8 @@ module _ (p : Plan) (fit : IsFit p) (answers : Answers) (open_calls : ℕ → Op
       state_stands : StateStands (job_settled answers at.run_plan first before at.plan) (legs_settled answers at.run_plan at.plan (needs_of at.run_plan before at.plan) first)
           (rows.judged_state at.run.stop condition)
       state_stands =
-          subst (λ c. StateStands (job_settled answers at.run_plan first before at.plan) (legs_settled answers at.run_plan at.plan (needs_of at.run_plan before at.plan) first)
-          (rows.judged_state c condition)) (sym run_here.stop)
-          (subst₂ (λ (x : SettledJob) (v : Plain). StateStands x (legs_settled answers at.run_plan at.plan v first) (rows.judged_state false condition))
-          (sym (settled_by answers (rows.first_of j at) first before at sees run_here.stop)) sees.needs
-          (stands_by condition (legs_settled answers at.run_plan at.plan (needs_value at) first)))
+          subst₂ (λ c (v : Plain). StateStands (job_settled answers at.run_plan first before at.plan) (legs_settled answers at.run_plan at.plan v first) (rows.judged_state c condition))
+          (sym run_here.stop) sees.needs (judged_stands answers (rows.first_of j at) first before at sees run_here.stop (rows.judged_state false condition) refl)
 
       judged_goes : Goes p answers open_calls b (Event.Judge j) (Ok (rows.job_state_set b at.place (rows.judged_state at.run.stop condition), moved))
       judged_goes stays =

@@ -1,6 +1,6 @@
 //! A copy of a board on which no run is told to stop, and the legs ended in the order of their numbers.
 
-ghost use Rattle.std.specs.Prelude.{◌≡◌, ◌≤◌, ◌++◌, [], ◌∷◌, IfOk, OnOk, length, map};
+ghost use Rattle.std.specs.Prelude.{◌≡◌, ◌≤◌, IfOk, length, map};
 ghost use Rattle.std.specs.List.{filter};
 ghost use Rattle.board_decisions.specs.Places.{numbers};
 ghost use Rattle.flow_model.specs.Numbers.{board_legs};
@@ -41,17 +41,6 @@ fn has_ended_at(board: &Board, number: usize) -> bool
     }
 }
 
-/// Notes the number of a leg, if it is Ended.
-fn note_ended(board: &Board, number: usize, made: &mut Sequence<u64>) -> Result<(), AllocError>
-    ensures { OnOk result (made.new
-        ≡ made.old ++ filter (spec.has_ended_at board.now) (number ∷ [])) }
-{
-    if has_ended_at(board, number) {
-        made.push(number as u64)?;
-    }
-    Ok(())
-}
-
 /// The numbers below a count whose legs are Ended.
 #[tactic(auto, using(crate::proofs::Outputs::filter_more))]
 fn ended_below(alloc: Global, board: &Board, count: usize) -> Result<Sequence<u64>, AllocError>
@@ -60,7 +49,9 @@ fn ended_below(alloc: Global, board: &Board, count: usize) -> Result<Sequence<u6
 {
     let mut made = Sequence::empty(alloc);
     for number in 0..count {
-        note_ended(board, number, &mut made)?;
+        if has_ended_at(board, number) {
+            made.push(number as u64)?;
+        }
     }
     Ok(made)
 }

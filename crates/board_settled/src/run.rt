@@ -9,8 +9,8 @@ ghost use Rattle.board_settled.specs.Settled.{run_settled};
 use crate::job::is_job_settled;
 use board_decisions::derived::run_result;
 use board_decisions::place::{JobPlace, SeenJob, SeenRun, item_at};
+use flow_model::RunState;
 use flow_model::laws::needs_point_back;
-use flow_model::{Outcome, RunState};
 use std::alloc::{AllocError, Global};
 use step_host::StepHost;
 
@@ -31,13 +31,6 @@ fn job_of<'a>(at: &SeenRun<'a>, number: usize, place: usize) -> Option<SeenJob<'
         run: at.run,
         job,
     })
-}
-
-/// Whether a run is Closed with this result.
-fn is_closed_so(state: RunState, how: Outcome) -> bool
-    ensures { IsTrue result ↔ (state ≡ RunState.Closed how) }
-{
-    state == RunState::Closed(how)
 }
 
 /// Whether a run is Closed as settled, with all its jobs: the number of the first leg after its own, or none. The run and
@@ -69,7 +62,7 @@ pub(crate) fn is_run_settled<H: StepHost>(
         };
         next = more;
     }
-    if !is_closed_so(at.run.state, run_result(at.run)) {
+    if at.run.state != RunState::Closed(run_result(at.run)) {
         return Ok(None);
     }
     Ok(Some(next))

@@ -1,6 +1,5 @@
-use Rattle.std.proofs.Common.{◌≡◌, ◌+◌, ◌≤◌, length, ap, sym, ◌∙◌, rules}
-use Rattle.std.proofs.lemmas.Bool.{true≢false}
-use Rattle.status_table.specs.Words.{RunState}
+use Rattle.std.proofs.Common.{◌≡◌, ◌+◌, ◌≤◌, length, rules}
+use Rattle.status_table.specs.Words.{RunState, run_result, run_seen}
 use Rattle.board_settled.proofs.Runs.{size_job, stands_job, run_fails, one_more_job, next_number, run_comes, only_closed, last_number}
 use Rattle.board_settled.proofs.run.is_run_settled.Goals as goal
 
@@ -28,16 +27,16 @@ loop-place-preserved g c =
           c.in_ok-is_job_settled.field-0 (λ before sees. c.in_ok-is_job_settled.ensures answers are before sees) c.if-not-branch.false;
     }
 
-pub returns-then-not-is_closed_so : goal.returns-then-not-is_closed_so
-returns-then-not-is_closed_so g c = λ answers are settled.
+pub returns-then-ne : goal.returns-then-ne
+returns-then-ne g c = λ answers are settled.
     let through : length c.args.at.now.run.now.jobs ≤ c.loop-place.place = search rules in
-    let is = only_closed c.requires c.needs_point_back.ensures answers c.args.first c.loop-place.place through (c.loop-place.invariant.jobs answers are) settled in
-    true≢false (sym (c.is_closed_so.ensures.1 (is ∙ ap (λ o. RunState.Closed o) (sym c.run_result.ensures))) ∙ c.if-not-is_closed_so.true)
+    let differs : c.args.at.now.run.now.state ≡ RunState.Closed (run_result (run_seen c.args.at.now).run) → ⊥ = search rules in
+    differs (only_closed c.requires c.needs_point_back.ensures answers c.args.first c.loop-place.place through (c.loop-place.invariant.jobs answers are) settled)
 
 pub returns : goal.returns
 returns g c = λ answers are.
     let through : length c.args.at.now.run.now.jobs ≤ c.loop-place.place = search rules in
-    let is = c.is_closed_so.ensures.0 c.if-not-is_closed_so.false ∙ ap (λ o. RunState.Closed o) c.run_result.ensures in (
+    let is : c.args.at.now.run.now.state ≡ RunState.Closed (run_result (run_seen c.args.at.now).run) = search rules in (
       run_comes c.requires c.needs_point_back.ensures answers c.args.first c.loop-place.place through (c.loop-place.invariant.jobs answers are) is,
       last_number c.requires c.needs_point_back.ensures c.loop-place.place through c.args.first c.loop-place.next c.loop-place.invariant.number,
     )
