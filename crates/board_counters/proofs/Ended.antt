@@ -1,39 +1,17 @@
 -- What has ended, by the counters.
-use Rattle.std.proofs.Common.{◌≡◌, ℕ, zero, suc, ◌+◌, ◌-◌, ◌==◌, ◌||◌, ◌&&◌, Bool, true, false, not, List, [], ◌∷◌, Option, Some, slice_get, map, count_by, ap, sym, refl, ◌∙◌, arith}
+use Rattle.std.proofs.Common.{◌≡◌, ℕ, zero, suc, ◌+◌, ◌-◌, ◌==◌, ◌||◌, Bool, true, false, not, List, [], ◌∷◌, Option, Some, slice_get, map, count_by, ap, sym, refl, ◌∙◌, arith}
 use Rattle.std.specs.List.{list_all}
 use Rattle.std.proofs.lemmas.Bool.{true≢false}
-use Rattle.std.proofs.lemmas.Bool.Decides.{nat_tests}
-use Rattle.std.proofs.lemmas.List.Sums.{sum_by-cons}
 use Rattle.status_table.specs.Words.{Board, InPlay, Job, JobAt, JobPlan, Leg, NeedsPointBack, Plan, Run, RunPlan, first_job, first_of, holds_at, is_closed, is_ended, is_going, is_shut, job_at, job_has_ended, jobs_have_ended, needs_have_ended, ◌>>=◌}
 use Rattle.board_counters.specs.Counters.{is_settled, settled_jobs, first_number, need_of, run_needs, needs_of, needs_none}
 use Rattle.board_counters.specs.declared.need.Need.{Need}
+use Rattle.board_counters.proofs.Lists.{all-counted}
 use Rattle.board_decisions.proofs.Lists.{map-get, same_some, no_some}
-use Rattle.status_table.proofs.Counts.{one}
 use Rattle.status_table.proofs.Found.{JobStands, job_stands}
 use Rattle.status_table.proofs.Sound.{is_numbered_in}
 use Rattle.status_table.proofs.Steps.{going-unclosed}
 
 -- ---- a job of a run that is Going has ended where it is settled
-
--- all pass a test where none is counted that does not
-pub all-counted : {A : Type 0} (t : A → Bool) (xs : List A) → list_all t xs ≡ (count_by (λ x. not (t x)) xs == 0)
-all-counted t [] = refl
-all-counted {A} t (x ∷ xs) = by (all-counted t xs) (t x) refl
-  where
-    cons : count_by (λ y. not (t y)) (x ∷ xs) ≡ one (not (t x)) + count_by (λ y. not (t y)) xs
-    cons = sum_by-cons (λ (y : A). one (not (t y))) x xs
-
-    by : list_all t xs ≡ (count_by (λ y. not (t y)) xs == 0) → (c : Bool) → t x ≡ c → list_all t (x ∷ xs) ≡ (count_by (λ y. not (t y)) (x ∷ xs) == 0)
-    by later true is =
-        let a = ap (λ d. one (not d)) is in
-        let n = cons in
-        let same : count_by (λ y. not (t y)) (x ∷ xs) ≡ count_by (λ y. not (t y)) xs = omega (arith, a, n) in
-        ap (λ d. d && list_all t xs) is ∙ later ∙ ap (λ k. k == 0) (sym same)
-    by later false is =
-        let a = ap (λ d. one (not d)) is in
-        let n = cons in
-        let some : (count_by (λ y. not (t y)) (x ∷ xs) == 0) ≡ false = grind (arith, nat_tests, a, n) in
-        ap (λ d. d && list_all t xs) is ∙ sym some
 
 ended-by : (closed shut : Bool) → closed ≡ false → (legs : List Leg)
     → list_all (λ leg. closed || shut || is_ended leg.state) legs ≡ (shut || (count_by (λ leg. not (is_ended leg.state)) legs == 0))

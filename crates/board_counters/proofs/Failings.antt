@@ -1,36 +1,34 @@
 -- Which legs have a failed step after a change.
-use Rattle.std.proofs.Common.{◌≡◌, ℕ, suc, ◌-◌, ◌||◌, Bool, true, false, List, [], ◌∷◌, ◌++◌, Option, Some, None, map, option_map, slice_get, length, take, if◌then◌else◌, ap, sym, refl, ◌∙◌}
+use Rattle.std.proofs.Common.{◌≡◌, ℕ, suc, ◌-◌, ◌||◌, Bool, true, false, List, [], ◌∷◌, ◌++◌, Option, Some, None, option_map, slice_get, length, take, if◌then◌else◌, ap, sym, refl, ◌∙◌}
 use Rattle.std.proofs.lemmas.Bool.{true≢false}
 use Rattle.std.proofs.lemmas.List.Folds.{list_any-append}
-use Rattle.status_table.specs.Words.{Board, DoneStep, Job, JobPlace, JobState, Leg, LegPlace, LegState, Run, changed, is_failure, leg_after, leg_there, step_done, with_job, with_leg, with_run, ◌>>=◌}
+use Rattle.std.proofs.lemmas.Option.{slice_get-map}
+use Rattle.status_table.specs.Words.{Board, DoneStep, Job, Leg, LegPlace, LegState, Run, changed, is_failure, leg_after, leg_there, step_done, with_leg, ◌>>=◌}
 use Rattle.board_counters.specs.Changes.{step_taken}
 use Rattle.board_counters.specs.Failing.{any_failed, failing_at, failing_noted, failing_of, failing_set, failing_taken, job_failing, leg_failed, leg_failing, or_false, run_failing}
 use Rattle.status_table.specs.declared.change.LegChange.{LegChange}
 use Rattle.board_counters.proofs.Lists.{map-changed, map-same}
-use Rattle.board_decisions.proofs.Lists.{map-get, map-past}
 use Rattle.board_counters.proofs.Tallies.{in_job, in_run, leg_there_changed, there}
 
 -- ---- the leg at a place
 
 pub failing_there : (b : Board) (place : LegPlace) → failing_at (failing_of b) place ≡ leg_failed (leg_there b place)
-failing_there b place = by_run (slice_get b.runs place.run) refl
+failing_there b place =
+    ap (λ o. or_false (o >>= λ row. slice_get row place.job >>= λ legs. slice_get legs place.leg)) (slice_get-map run_failing b.runs place.run) ∙ by_run (slice_get b.runs place.run)
   where
-    by_leg : (job : Job) (o : Option Leg) → slice_get job.legs place.leg ≡ o → or_false (slice_get (map leg_failing job.legs) place.leg) ≡ leg_failed o
-    by_leg job None at = ap or_false (map-past leg_failing job.legs place.leg at)
-    by_leg job (Some leg) at = ap or_false (map-get leg_failing job.legs place.leg leg at)
+    by_leg : (o : Option Leg) → or_false (option_map leg_failing o) ≡ leg_failed o
+    by_leg None = refl
+    by_leg (Some leg) = refl
 
-    by_job : (run : Run) (o : Option Job) → slice_get run.jobs place.job ≡ o
-        → or_false (slice_get (map job_failing run.jobs) place.job >>= λ legs. slice_get legs place.leg) ≡ leg_failed (o >>= λ job. slice_get job.legs place.leg)
-    by_job run None at = ap (λ o. or_false (o >>= λ legs. slice_get legs place.leg)) (map-past job_failing run.jobs place.job at)
-    by_job run (Some job) at =
-        ap (λ o. or_false (o >>= λ legs. slice_get legs place.leg)) (map-get job_failing run.jobs place.job job at) ∙ by_leg job (slice_get job.legs place.leg) refl
+    by_job : (o : Option Job) → or_false (option_map job_failing o >>= λ legs. slice_get legs place.leg) ≡ leg_failed (o >>= λ job. slice_get job.legs place.leg)
+    by_job None = refl
+    by_job (Some job) = ap or_false (slice_get-map leg_failing job.legs place.leg) ∙ by_leg (slice_get job.legs place.leg)
 
-    by_run : (o : Option Run) → slice_get b.runs place.run ≡ o
-        → failing_at (failing_of b) place ≡ leg_failed (o >>= λ run. slice_get run.jobs place.job >>= λ job. slice_get job.legs place.leg)
-    by_run None at = ap (λ o. or_false (o >>= λ row. slice_get row place.job >>= λ legs. slice_get legs place.leg)) (map-past run_failing b.runs place.run at)
-    by_run (Some run) at =
-        ap (λ o. or_false (o >>= λ row. slice_get row place.job >>= λ legs. slice_get legs place.leg)) (map-get run_failing b.runs place.run run at)
-        ∙ by_job run (slice_get run.jobs place.job) refl
+    by_run : (o : Option Run) → or_false (option_map run_failing o >>= λ row. slice_get row place.job >>= λ legs. slice_get legs place.leg)
+        ≡ leg_failed (o >>= λ run. slice_get run.jobs place.job >>= λ job. slice_get job.legs place.leg)
+    by_run None = refl
+    by_run (Some run) =
+        ap (λ o. or_false (o >>= λ legs. slice_get legs place.leg)) (slice_get-map job_failing run.jobs place.job) ∙ by_job (slice_get run.jobs place.job)
 
 -- ---- changes
 
@@ -97,11 +95,3 @@ failing_off b new place state old made old_is new_is made_is =
     by false is = sym (leg_failing_kept b place (step_taken state) (λ leg at.
         let none : any_failed leg.steps ≡ false = sym (ap leg_failed at) ∙ sym (failing_there b place) ∙ is in
         none-left leg.steps (length leg.steps - 1) none ∙ sym none))
-
--- they stay where a job comes into a state, and where a run is changed, but not its jobs
-pub job_failing_kept : (b : Board) (place : JobPlace) (state : JobState) → failing_of (with_job b place (λ job. record job { state = state })) ≡ failing_of b
-job_failing_kept b place state = map-same run_failing b.runs place.run (λ run. record run { jobs = changed run.jobs place.job (λ job. record job { state = state }) })
-    (λ run in_runs. map-same job_failing run.jobs place.job (λ (job : Job). record job { state = state }) (λ job in_jobs. refl))
-
-pub run_failing_kept : (b : Board) (r : ℕ) (f : Run → Run) → ((run : Run) → (f run).jobs ≡ run.jobs) → failing_of (with_run b r f) ≡ failing_of b
-run_failing_kept b r f keeps = map-same run_failing b.runs r f (λ run in_runs. ap (map job_failing) (keeps run))

@@ -1,11 +1,11 @@
 -- What is kept beside a board after a change of it.
-use Rattle.std.proofs.Common.{◌≡◌, ℕ, inl, inr, Bool, true, false, List, Option, map, slice_get, ap, subst, sym, refl, ◌∙◌}
-use Rattle.status_table.specs.Words.{Board, Job, JobPlace, JobState, Leg, LegPlace, LegState, Plan, Run, changed, run_sizes, with_job, with_leg, with_run}
+use Rattle.std.proofs.Common.{◌≡◌, ℕ, inl, inr, Bool, true, false, List, Option, map, slice_get, ap, subst, sym, refl, ◌∙◌, length}
+use Rattle.status_table.specs.Words.{Board, Job, JobPlace, JobState, Leg, LegPlace, LegState, Plan, Run, changed, run_sizes, with_job, with_leg, with_run, sizes}
 use Rattle.board_counters.specs.Changes.{CameTo, LegRecounted, job_of, resettled, run_after, standing_counted}
-use Rattle.board_counters.specs.Counted.{AreCounts, IsCounted}
-use Rattle.board_counters.specs.Counters.{is_settled, moved, needs_of, tallies_of}
+use Rattle.board_counters.specs.Counted.{IsCounted}
+use Rattle.board_counters.specs.Counters.{is_settled, moved, needs_of, tallies_of, tally_of}
 use Rattle.board_counters.specs.Dependents.{all_dependents, dependents_at}
-use Rattle.board_counters.specs.Failing.{failing_of}
+use Rattle.board_counters.specs.Failing.{failing_of, job_failing}
 use Rattle.board_counters.specs.Lasting.{IsLasting}
 use Rattle.board_counters.specs.Standing.{run_moved, run_tally, standing_read}
 use Rattle.board_counters.specs.Stopping.{run_legs}
@@ -17,13 +17,13 @@ use Rattle.board_counters.specs.declared.standing.JobStanding.{JobStanding}
 use Rattle.board_counters.specs.declared.standing.RunTally.{RunTally}
 use Rattle.board_counters.specs.declared.stopping.RunLegs.{RunLegs}
 use Rattle.board_counters.specs.declared.tally.Tally.{Tally}
-use Rattle.board_counters.proofs.Failings.{job_failing_kept, run_failing_kept}
-use Rattle.board_counters.proofs.Lists.{changed-same}
+use Rattle.board_counters.proofs.Lists.{changed-same, jobs-kept, map-same}
 use Rattle.board_counters.proofs.Needs.{needs_follow, needs-kept, settled_in}
-use Rattle.board_counters.proofs.Placed.{leg_sizes, job_sizes, run_sizes_kept, still_lasts}
-use Rattle.board_counters.proofs.Standings.{moved_alike, read_before, read_in, run_tallies_kept, runs_follow, standing_in, standing_settles}
-use Rattle.board_counters.proofs.Stops.{job_told_kept, run_told_kept}
-use Rattle.board_counters.proofs.Tallies.{ComesSo, alike_tallies, job_tallies, moved_same, run_tallies, tallied_so}
+use Rattle.board_counters.proofs.Placed.{still_lasts}
+use Rattle.board_counters.proofs.Standings.{moved_alike, read_before, read_in, runs_follow, standing_in, standing_settles}
+use Rattle.board_counters.proofs.Stops.{job_told_kept}
+use Rattle.status_table.proofs.Lists.{length-changed}
+use Rattle.board_counters.proofs.Tallies.{ComesSo, alike_tallies, moved_same, tallied_so}
 
 -- where a leg is counted alike, nothing is counted again
 pub alike_recounted : (place : LegPlace) (was is : LegState) (run : Option Run) (dependents : List (List (List ℕ))) (counts : Counts) → ((t : Tally) → moved was is t ≡ t)
@@ -73,34 +73,28 @@ jobs-stand b new r j g was is old made stand runs was_is is_is made_is =
     ∙ runs_follow j g b.runs r
     ∙ ap (map run_tally) (sym runs)
 
--- the counts where a leg was changed, with those of the legs that are told to stop
-pub leg_counts : (p : Plan) (b new : Board) (place : LegPlace) (f : Leg → Leg) (was is : LegState) (old made : Counts) (legs : List RunLegs) (ls : Lasting) → AreCounts p b old → IsLasting p b ls
-    → new ≡ with_leg b place f → ComesSo b new place was is → LegRecounted place was is (slice_get new.runs place.run) ls.dependents old made → legs ≡ map run_legs new.runs
-    → AreCounts p new (record made { legs = legs })
-leg_counts p b new place f was is old made legs ls counted lasts new_is so again told =
-    let g : Job → Job = λ job. record job { legs = changed job.legs place.leg f } in
-    let runs : new.runs ≡ (with_leg b place f).runs = ap (λ (x : Board). x.runs) new_is in
-    let tallied : made.tallies ≡ tallies_of new = again.tallies ∙ tallied_so b new place f was is old.tallies counted.tallied new_is so in
-    let before : standing_counted place (slice_get new.runs place.run) old ≡ standing_in (slice_get b.runs place.run) place.job =
-    (λ i. standing_read (slice_get (runs i) place.run) (slice_get (counted.tallied i) place.run) place.job) ∙ read_before b place f in
-    let after : standing_counted place (slice_get new.runs place.run) made ≡ standing_in (slice_get new.runs place.run) place.job =
-    ap (λ ts. standing_read (slice_get new.runs place.run) (slice_get ts place.run) place.job) tallied ∙ read_in new place.run place.job in
-    record {
-      tallied = tallied;
-      stand = jobs-stand b new place.run place.job g _ _ old.runs made.runs counted.stand runs before after again.runs;
-      told = told;
-      needed = job-needed p b new place.run place.job g _ _ ls old.needs made.needs lasts counted.needed runs before after again.needs;
-    }
-
--- all that is kept where a leg was changed
+-- all that is kept where a leg was changed, with the counts of the legs that are told to stop
 pub leg_counted : (p : Plan) (b new : Board) (place : LegPlace) (f : Leg → Leg) (was is : LegState) (old made : Counts) (legs : List RunLegs) (fs gs : List (List (List Bool))) (ls : Lasting)
     → IsCounted p b old fs ls → new ≡ with_leg b place f → ComesSo b new place was is
     → LegRecounted place was is (slice_get new.runs place.run) ls.dependents old made → legs ≡ map run_legs new.runs → gs ≡ failing_of new → IsCounted p new (record made { legs = legs }) gs ls
-leg_counted p b new place f was is old made legs fs gs ls counted new_is so again told failed = record {
-  counted = leg_counts p b new place f was is old made legs ls counted.counted counted.lasts new_is so again told;
-  failed = failed;
-  lasts = still_lasts p b new ls (ap (λ (x : Board). run_sizes x.runs) new_is ∙ leg_sizes b place f) counted.lasts;
-}
+leg_counted p b new place f was is old made legs fs gs ls counted new_is so again told failed =
+    let g : Job → Job = λ job. record job { legs = changed job.legs place.leg f } in
+    let runs : new.runs ≡ (with_leg b place f).runs = ap (λ (x : Board). x.runs) new_is in
+    let tallied : made.tallies ≡ tallies_of new = again.tallies ∙ tallied_so b new place f was is old.tallies counted.counted.tallied new_is so in
+    let before : standing_counted place (slice_get new.runs place.run) old ≡ standing_in (slice_get b.runs place.run) place.job =
+    (λ i. standing_read (slice_get (runs i) place.run) (slice_get (counted.counted.tallied i) place.run) place.job) ∙ read_before b place f in
+    let after : standing_counted place (slice_get new.runs place.run) made ≡ standing_in (slice_get new.runs place.run) place.job =
+    ap (λ ts. standing_read (slice_get new.runs place.run) (slice_get ts place.run) place.job) tallied ∙ read_in new place.run place.job in
+    record {
+      counted = record {
+        tallied = tallied;
+        stand = jobs-stand b new place.run place.job g _ _ old.runs made.runs counted.counted.stand runs before after again.runs;
+        told = told;
+        needed = job-needed p b new place.run place.job g _ _ ls old.needs made.needs counted.lasts counted.counted.needed runs before after again.needs;
+      };
+      failed = failed;
+      lasts = still_lasts p b new ls (ap run_sizes runs ∙ jobs-kept (λ (job : Job). length job.legs) b.runs place.run place.job g (λ job. length-changed job.legs place.leg f)) counted.lasts;
+    }
 
 -- where a job came into a state
 pub job_counted : (p : Plan) (b new : Board) (place : JobPlace) (state : JobState) (was is : JobStanding) (old made : Counts) (fs : List (List (List Bool))) (ls : Lasting)
@@ -111,7 +105,7 @@ pub job_counted : (p : Plan) (b new : Board) (place : JobPlace) (state : JobStat
 job_counted p b new place state was is old made fs ls counted new_is was_is is_is tallies_is legs_is runs_is needs_is =
     let g : Job → Job = λ job. record job { state = state } in
     let runs : new.runs ≡ (with_job b place g).runs = ap (λ (x : Board). x.runs) new_is in
-    let stay : old.tallies ≡ tallies_of new = counted.counted.tallied ∙ sym (job_tallies b place state) ∙ ap tallies_of (sym new_is) in
+    let stay : old.tallies ≡ tallies_of new = counted.counted.tallied ∙ sym (jobs-kept tally_of b.runs place.run place.job g (λ job. refl)) ∙ ap tallies_of (sym new_is) in
     let before : was ≡ standing_in (slice_get b.runs place.run) place.job =
     was_is ∙ ap (λ ts. standing_read (slice_get b.runs place.run) (slice_get ts place.run) place.job) counted.counted.tallied ∙ read_in b place.run place.job in
     let after : is ≡ standing_in (slice_get new.runs place.run) place.job =
@@ -123,8 +117,8 @@ job_counted p b new place state was is old made fs ls counted new_is was_is is_i
         told = legs_is ∙ counted.counted.told ∙ sym (job_told_kept b.runs place.run place.job g (λ job. refl) (λ job. refl)) ∙ ap (map run_legs) (sym runs);
         needed = job-needed p b new place.run place.job g was is ls old.needs made.needs counted.lasts counted.counted.needed runs before after needs_is;
       };
-      failed = counted.failed ∙ sym (job_failing_kept b place state) ∙ ap failing_of (sym new_is);
-      lasts = still_lasts p b new ls (ap (λ (x : Board). run_sizes x.runs) new_is ∙ job_sizes b place state) counted.lasts;
+      failed = counted.failed ∙ sym (jobs-kept job_failing b.runs place.run place.job g (λ job. refl)) ∙ ap failing_of (sym new_is);
+      lasts = still_lasts p b new ls (ap run_sizes runs ∙ jobs-kept (λ (job : Job). length job.legs) b.runs place.run place.job g (λ job. refl)) counted.lasts;
     }
 
 jobs_stay : (how : RunChange) (run : Run) → (run_after how run).jobs ≡ run.jobs
@@ -136,14 +130,14 @@ pub run_counted : (p : Plan) (b new : Board) (r : ℕ) (how : RunChange) (counts
     → new ≡ with_run b r (run_after how) → IsCounted p new counts fs ls
 run_counted p b new r how counts fs ls counted new_is = subst (λ (x : Board). IsCounted p x counts fs ls) (sym new_is) (record {
   counted = record {
-    tallied = counted.counted.tallied ∙ sym (run_tallies b r (run_after how) (jobs_stay how));
-    stand = counted.counted.stand ∙ sym (run_tallies_kept b.runs r (run_after how) (jobs_stay how));
-    told = counted.counted.told ∙ sym (run_told_kept b.runs r (run_after how) (jobs_stay how));
-    needed = counted.counted.needed ∙ sym (needs-kept p.runs b.runs r (run_after how) (λ run at. ap settled (jobs_stay how run)));
+    tallied = counted.counted.tallied ∙ sym (kept (map tally_of));
+    stand = counted.counted.stand ∙ sym (map-same run_tally b.runs r (run_after how) (λ run at. ap (λ (jobs : List Job). run_tally (record run { jobs = jobs })) (jobs_stay how run)));
+    told = counted.counted.told ∙ sym (map-same run_legs b.runs r (run_after how) (λ run at. ap (λ (jobs : List Job). run_legs (record run { jobs = jobs })) (jobs_stay how run)));
+    needed = counted.counted.needed ∙ sym (needs-kept p.runs b.runs r (run_after how) (λ run at. ap (map is_settled) (jobs_stay how run)));
   };
-  failed = counted.failed ∙ sym (run_failing_kept b r (run_after how) (jobs_stay how));
-  lasts = still_lasts p b (with_run b r (run_after how)) ls (run_sizes_kept b r (run_after how) (jobs_stay how)) counted.lasts;
+  failed = counted.failed ∙ sym (kept (map job_failing));
+  lasts = still_lasts p b (with_run b r (run_after how)) ls (kept sizes) counted.lasts;
 })
   where
-    settled : List Job → List Bool
-    settled jobs = map is_settled jobs
+    kept : {A : Type 0} (g : List Job → A) → map (λ (run : Run). g run.jobs) (changed b.runs r (run_after how)) ≡ map (λ (run : Run). g run.jobs) b.runs
+    kept g = map-same (λ (run : Run). g run.jobs) b.runs r (run_after how) (λ run at. ap g (jobs_stay how run))

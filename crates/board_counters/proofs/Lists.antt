@@ -1,10 +1,11 @@
 -- Lists with one item changed: what is made of each item, and how many pass a test.
-use Rattle.std.proofs.Common.{◌≡◌, ℕ, zero, suc, ◌+◌, ◌<◌, ◌≤◌, ◌||◌, Bool, true, false, List, [], ◌∷◌, ◌++◌, Some, None, length, map, drop, get_or, slice_get, slice_set, nat_lt, count_by, if◌then◌else◌, append_assoc, ap, sym, refl, ◌∙◌, arith}
-use Rattle.std.specs.List.{list_any}
+use Rattle.std.proofs.Common.{◌≡◌, ℕ, zero, suc, ◌+◌, ◌<◌, ◌≤◌, ◌||◌, Bool, true, false, List, [], ◌∷◌, ◌++◌, Some, None, length, map, drop, get_or, slice_get, slice_set, nat_lt, count_by, if◌then◌else◌, append_assoc, ap, sym, refl, ◌∙◌, arith, ◌==◌, not, zero-add}
+use Rattle.std.specs.List.{list_all, list_any}
 use Rattle.std.proofs.lemmas.Bool.Decides.{nat_tests}
 use Rattle.std.proofs.lemmas.List.{drop_more}
+use Rattle.std.proofs.lemmas.List.Folds.{sum_by-zero}
 use Rattle.std.proofs.lemmas.List.Sums.{sum_by-cons, count_by-le-length}
-use Rattle.status_table.specs.Words.{changed, put}
+use Rattle.status_table.specs.Words.{changed, put, Job, Run}
 use Rattle.board_counters.specs.Counters.{turned}
 use Rattle.status_table.proofs.Counts.{one, sum-changed}
 use Rattle.status_table.proofs.Lists.{changed-cons, length-changed}
@@ -23,6 +24,11 @@ pub map-same : {A B : Type 0} (g : A → B) (xs : List A) (i : ℕ) (f : A → A
 map-same g [] i f step = refl
 map-same g (x ∷ xs) zero f step = ap (λ y. y ∷ map g xs) (step x refl)
 map-same g (x ∷ xs) (suc i) f step = ap (map g) (changed-cons x xs i f) ∙ ap (λ ys. g x ∷ ys) (map-same g xs i f step)
+
+-- what is made of the jobs of each run stays where one of these jobs is changed to one of which the same is made
+pub jobs-kept : {A : Type 0} (g : Job → A) (runs : List Run) (r j : ℕ) (f : Job → Job) → ((job : Job) → g (f job) ≡ g job)
+    → map (λ (run : Run). map g run.jobs) (changed runs r (λ run. record run { jobs = changed run.jobs j f })) ≡ map (λ (run : Run). map g run.jobs) runs
+jobs-kept g runs r j f keeps = map-same (λ (run : Run). map g run.jobs) runs r (λ run. record run { jobs = changed run.jobs j f }) (λ run at. map-same g run.jobs j f (λ job there. keeps job))
 
 pub map-twice : {A B C : Type 0} (f : A → B) (g : B → C) (h : A → C) (xs : List A) → ((x : A) → g (f x) ≡ h x) → map g (map f xs) ≡ map h xs
 map-twice f g h [] step = refl
@@ -68,22 +74,21 @@ count-changed t xs i f x at =
     turned-by (length xs) (count_by t xs) (count_by t (changed xs i f)) (t x) (t (f x)) (sum-changed (λ y. one (t y)) xs i f x at) (omega (arith, most, size))
 
 -- some item passes a test where one is counted
-pub any-counted : {T : Type 0} (t : T → Bool) (xs : List T) → list_any t xs ≡ nat_lt 0 (count_by t xs)
-any-counted t [] = refl
-any-counted t (x ∷ xs) = by (any-counted t xs) (t x) refl
+pub any_counted : {T : Type 0} (t : T → Bool) (xs : List T) → list_any t xs ≡ nat_lt 0 (count_by t xs)
+any_counted t [] = refl
+any_counted t (x ∷ xs) = ap (λ c. t x || c) (any_counted t xs) ∙ by (t x) ∙ ap (nat_lt 0) (sym (sum_by-cons (λ y. one (t y)) x xs))
   where
-    cons : count_by t (x ∷ xs) ≡ one (t x) + count_by t xs
-    cons = sum_by-cons (λ y. one (t y)) x xs
+    by : (c : Bool) → (c || nat_lt 0 (count_by t xs)) ≡ nat_lt 0 (one c + count_by t xs)
+    by true = let more : nat_lt 0 (one true + count_by t xs) ≡ true = grind (arith, nat_tests) in sym more
+    by false = ap (nat_lt 0) (sym (zero-add (count_by t xs)))
 
-    by : list_any t xs ≡ nat_lt 0 (count_by t xs) → (c : Bool) → t x ≡ c → list_any t (x ∷ xs) ≡ nat_lt 0 (count_by t (x ∷ xs))
-    by later true is =
-        let a = ap one is in let n = cons in
-        let more : nat_lt 0 (count_by t (x ∷ xs)) ≡ true = grind (arith, nat_tests, a, n) in
-        ap (λ c. c || list_any t xs) is ∙ sym more
-    by later false is =
-        let a = ap one is in let n = cons in
-        let same : count_by t (x ∷ xs) ≡ count_by t xs = omega (arith, a, n) in
-        ap (λ c. c || list_any t xs) is ∙ later ∙ ap (nat_lt 0) (sym same)
+-- all pass it where none is counted that does not
+pub all-counted : {T : Type 0} (t : T → Bool) (xs : List T) → list_all t xs ≡ (count_by (λ x. not (t x)) xs == 0)
+all-counted t xs = ap (λ u. list_all u xs) (λ i x. by (t x) i) ∙ sym (sum_by-zero (λ x. one (not (t x))) xs)
+  where
+    by : (c : Bool) → c ≡ (one (not c) == 0)
+    by true = refl
+    by false = refl
 
 -- an item that is put in its own place again changes nothing
 pub set_same : {T : Type 0} (xs : List T) (i : ℕ) (x y : T) → Some x ≡ slice_get xs i → y ≡ x → slice_set xs i y ≡ xs

@@ -2,31 +2,11 @@
 use Rattle.std.proofs.Common.{◌≡◌, ◌<◌, ◌+◌, ℕ, List, [], ◌∷◌, ◌++◌, Option, Some, None, length, take, get_or, slice_get, ap, subst, sym, refl, ◌∙◌}
 use Rattle.std.specs.List.{AllZip}
 use Rattle.std.proofs.lemmas.List.{take_more}
-use Rattle.status_table.specs.Words.{AreCallsOf, Board, Calls, Job, JobPlace, JobPlan, JobState, Leg, LegPlace, Outcome, Plan, Run, RunPlan, StepPlan, Tells, all_jobs_from, all_legs_from, called_as, changed, is_called, leg_result, run_sizes, sizes, step_decision, with_job, with_leg, with_run, ◌>>=◌}
+use Rattle.status_table.specs.Words.{AreCallsOf, Board, Calls, JobPlace, JobPlan, Outcome, Plan, RunPlan, StepPlan, Tells, all_jobs_from, all_legs_from, called_as, is_called, leg_result, run_sizes, step_decision, ◌>>=◌}
 use Rattle.board_counters.specs.Dependents.{all_dependents}
 use Rattle.board_counters.specs.Lasting.{IsLasting, TellsJobs, TellsRuns, TellsSteps, calls_at, or_unknown}
 use Rattle.board_counters.specs.declared.lasting.Lasting.{Lasting}
-use Rattle.board_counters.proofs.Lists.{map-same}
-use Rattle.status_table.proofs.Lists.{length-changed, zip-append, zip-get}
-
--- ---- how many legs each job has
-
--- as many as before, where a leg is changed
-pub leg_sizes : (b : Board) (place : LegPlace) (f : Leg → Leg) → run_sizes (with_leg b place f).runs ≡ run_sizes b.runs
-leg_sizes b place f = map-same (λ (run : Run). sizes run.jobs) b.runs place.run
-    (λ run. record run { jobs = changed run.jobs place.job (λ job. record job { legs = changed job.legs place.leg f }) })
-    (λ run in_runs. map-same (λ (job : Job). length job.legs) run.jobs place.job (λ job. record job { legs = changed job.legs place.leg f }) (λ job in_jobs. length-changed job.legs place.leg f))
-
--- and where a job comes into a state, or a run is changed, but not its jobs
-pub job_sizes : (b : Board) (place : JobPlace) (state : JobState) → run_sizes (with_job b place (λ job. record job { state = state })).runs ≡ run_sizes b.runs
-job_sizes b place state = map-same (λ (run : Run). sizes run.jobs) b.runs place.run
-    (λ run. record run { jobs = changed run.jobs place.job (λ job. record job { state = state }) })
-    (λ run in_runs. map-same (λ (job : Job). length job.legs) run.jobs place.job (λ job. record job { state = state }) (λ job in_jobs. refl))
-
-pub run_sizes_kept : (b : Board) (r : ℕ) (f : Run → Run) → ((run : Run) → (f run).jobs ≡ run.jobs) → run_sizes (with_run b r f).runs ≡ run_sizes b.runs
-run_sizes_kept b r f keeps = map-same (λ (run : Run). sizes run.jobs) b.runs r f (λ run in_runs. ap sizes (keeps run))
-
--- ---- what stays
+use Rattle.status_table.proofs.Lists.{zip-append, zip-get}
 
 pub still_lasts : (p : Plan) (b new : Board) (lasting : Lasting) → run_sizes new.runs ≡ run_sizes b.runs → IsLasting p b lasting → IsLasting p new lasting
 still_lasts p b new lasting same is = record {

@@ -1,15 +1,15 @@
 -- How jobs stand by their tallies, and the counts of a run's jobs after one was changed.
-use Rattle.std.proofs.Common.{◌≡◌, ℕ, ◌==◌, ◌||◌, ◌&&◌, Bool, true, false, List, [], ◌∷◌, Option, Some, None, map, option_map, slice_get, length, nat_lt, if◌then◌else◌, ap, sym, refl, ◌∙◌}
+use Rattle.std.proofs.Common.{◌≡◌, ℕ, ◌==◌, ◌||◌, ◌&&◌, Bool, true, false, List, [], ◌∷◌, Option, Some, None, map, option_map, slice_get, length, nat_lt, if◌then◌else◌, ap, sym, refl, ◌∙◌, count_by}
 use Rattle.std.specs.List.{list_all, list_any}
 use Rattle.std.proofs.lemmas.Bool.{true≢false}
-use Rattle.status_table.specs.Words.{Board, Job, JobState, Leg, LegPlace, Outcome, Run, RunState, all_succeed, changed, has_failed, holds, is_any_job_cancelled, is_any_job_failed, is_cancelled, is_failure, is_going, is_success, job_result, jobs_have_ended, legs_result, result_by, run_result, was_cancelled, with_leg}
+use Rattle.status_table.specs.Words.{Board, Job, JobState, Leg, LegPlace, Outcome, Run, RunState, all_succeed, changed, has_failed, holds, is_cancelled, is_failure, is_going, is_success, job_result, jobs_have_ended, legs_result, result_by, run_result, was_cancelled, with_leg}
 use Rattle.board_counters.specs.Counters.{is_settled, settled_jobs, tally_of, tallies_of, turned}
-use Rattle.board_counters.specs.Standing.{counted_jobs, counts_job, has_fresh, has_left, no_standing, run_moved, run_tally, run_tally_there, standing_by, standing_given, standing_of, standing_read, tally_result, told_result}
+use Rattle.board_counters.specs.Standing.{counted_jobs, counts_job, no_standing, run_moved, run_tally, run_tally_there, standing_by, standing_given, standing_of, result_with, standing_read, tally_result, told_result}
 use Rattle.board_counters.specs.declared.standing.JobCounter.{JobCounter}
 use Rattle.board_counters.specs.declared.standing.JobStanding.{JobStanding}
 use Rattle.board_counters.specs.declared.standing.RunTally.{RunTally}
-use Rattle.board_counters.proofs.Ended.{all-counted, jobs_ended}
-use Rattle.board_counters.proofs.Lists.{any-counted, changed-none, count-changed, map-changed, map-same}
+use Rattle.board_counters.proofs.Ended.{jobs_ended}
+use Rattle.board_counters.proofs.Lists.{all-counted, any_counted, changed-none, count-changed, map-changed}
 use Rattle.board_decisions.proofs.Lists.{map-get, map-past}
 use Rattle.board_counters.proofs.Needs.{settled_in}
 use Rattle.board_counters.proofs.Tallies.{get_changed, in_job, in_run, turned_same}
@@ -29,26 +29,16 @@ standing_in (Some run) j = standing_there (slice_get run.jobs j)
 
 by-tally : (job : Job) → tally_result (tally_of job) ≡ legs_result job.legs
 by-tally job =
-    let failed = any-counted (λ (leg : Leg). has_failed leg.state) job.legs in
-    let cancelled = any-counted (λ (leg : Leg). was_cancelled leg.state) job.legs in
+    let failed = any_counted (λ (leg : Leg). has_failed leg.state) job.legs in
+    let cancelled = any_counted (λ (leg : Leg). was_cancelled leg.state) job.legs in
     sym (λ i. if failed i then Outcome.Failure else (if cancelled i then Outcome.Cancelled else Outcome.Success))
 
+result-with : (job : Job) (s : JobState) → result_with s (tally_of job) ≡ result_by RunState.Going s job.legs
+result-with job (JobState.Shut how) = refl
+result-with job s = by-tally job
+
 by-state : (job : Job) (s : JobState) → standing_by s (tally_of job) ≡ standing_of (record job { state = s })
-by-state job (JobState.Shut how) = refl
-by-state job JobState.Open = λ i. record {
-  is_settled = (tally_of job).pending == 0;
-  result = by-tally job i;
-  is_unjudged = false;
-  may_ask = has_fresh (tally_of job);
-  may_drop = has_left (tally_of job);
-}
-by-state job JobState.Unjudged = λ i. record {
-  is_settled = (tally_of job).pending == 0;
-  result = by-tally job i;
-  is_unjudged = true;
-  may_ask = false;
-  may_drop = false;
-}
+by-state job s = ap (λ (result : Outcome). record (standing_by s (tally_of job)) { result = result }) (result-with job s)
 
 pub by_state : (job : Job) → standing_by job.state (tally_of job) ≡ standing_of job
 by_state job = by-state job job.state
@@ -143,22 +133,6 @@ module _ (j : ℕ) (g : Job → Job) where
       one-run run (slice_get run.jobs j) refl
       ∙ sym (λ i. run_moved (standing_in (at i) j) (standing_in (changed-there runs r at_job run at i) j) (run_tally run))))
 
--- they stay where a run is changed, but not its jobs
-pub run_tallies_kept : (runs : List Run) (r : ℕ) (f : Run → Run) → ((run : Run) → (f run).jobs ≡ run.jobs) → map run_tally (changed runs r f) ≡ map run_tally runs
-run_tallies_kept runs r f keeps = map-same run_tally runs r f (λ run at. ap counted (keeps run))
-  where
-    counted : List Job → RunTally
-    counted jobs = record {
-      jobs = length jobs;
-      pending = counted_jobs JobCounter.Open jobs;
-      failed = counted_jobs JobCounter.Failed jobs;
-      cancelled = counted_jobs JobCounter.Cancelled jobs;
-      unsuccessful = counted_jobs JobCounter.Unsuccessful jobs;
-      unjudged = counted_jobs JobCounter.Unjudged jobs;
-      asking = counted_jobs JobCounter.Asking jobs;
-      dropping = counted_jobs JobCounter.Dropping jobs;
-    }
-
 -- ---- what they tell of a run that is Going
 
 going-by : (s : RunState) → is_going s ≡ true → (state : JobState) (legs : List Leg) → result_by s state legs ≡ result_by RunState.Going state legs
@@ -174,33 +148,21 @@ all-results run t [] same = refl
 all-results run t (job ∷ jobs) same = (λ i. t (same job i) && list_all (λ x. t (standing_of x).result) jobs) ∙ ap (λ c. t (job_result run job) && c) (all-results run t jobs same)
 
 -- how the jobs of a run stand, by what is kept of it
-pub told_tally : (runs : List RunTally) (all : List Run) (r : ℕ) (run : Run) → runs ≡ map run_tally all → slice_get all r ≡ Some run → run_tally_there (slice_get runs r) ≡ run_tally run
-told_tally runs all r run stand at = ap (λ ts. run_tally_there (slice_get ts r)) stand ∙ ap run_tally_there (map-get run_tally all r run at)
+pub told_tally : (runs : List Run) (r : ℕ) (run : Run) → slice_get runs r ≡ Some run → run_tally_there (slice_get (map run_tally runs) r) ≡ run_tally run
+told_tally runs r run at = ap run_tally_there (map-get run_tally runs r run at)
 
-module _ (runs : List RunTally) (all : List Run) (r : ℕ) (run : Run) (stand : runs ≡ map run_tally all) (at : slice_get all r ≡ Some run) (going : is_going run.state ≡ true) where
-  tally_is : run_tally_there (slice_get runs r) ≡ run_tally run
-  tally_is = told_tally runs all r run stand at
+pub ended_told : (run : Run) → is_going run.state ≡ true → ((run_tally run).pending == 0) ≡ jobs_have_ended run
+ended_told run going = sym (all-counted (λ job. is_settled job) run.jobs) ∙ jobs_ended run going
 
-  pub told_ended : ((run_tally_there (slice_get runs r)).pending == 0) ≡ jobs_have_ended run
-  told_ended = ap (λ (t : RunTally). t.pending == 0) tally_is ∙ sym (all-counted (λ job. is_settled job) run.jobs) ∙ jobs_ended run going
+pub success_told : (run : Run) → is_going run.state ≡ true → ((run_tally run).unsuccessful == 0) ≡ all_succeed run
+success_told run going = sym (all-counted (λ job. is_success (standing_of job).result) run.jobs) ∙ all-results run is_success run.jobs (standing-result run going)
 
-  pub told_succeed : ((run_tally_there (slice_get runs r)).unsuccessful == 0) ≡ all_succeed run
-  told_succeed =
-      ap (λ (t : RunTally). t.unsuccessful == 0) tally_is
-      ∙ sym (all-counted (λ job. is_success (standing_of job).result) run.jobs)
-      ∙ all-results run is_success run.jobs (standing-result run going)
+-- whether the result of one counts so
+any-result : (run : Run) → is_going run.state ≡ true → (t : Outcome → Bool) → nat_lt 0 (count_by (λ job. t (standing_of job).result) run.jobs) ≡ list_any (λ job. t (job_result run job)) run.jobs
+any-result run going t = sym (any_counted (λ job. t (standing_of job).result) run.jobs) ∙ (λ i. list_any (λ job. t (standing-result run going job i)) run.jobs)
 
-  told_failed : nat_lt 0 (run_tally_there (slice_get runs r)).failed ≡ is_any_job_failed run
-  told_failed =
-      ap (λ (t : RunTally). nat_lt 0 t.failed) tally_is
-      ∙ sym (any-counted (λ job. is_failure (standing_of job).result) run.jobs)
-      ∙ (λ i. list_any (λ job. is_failure (standing-result run going job i)) run.jobs)
-
-  told_cancelled : nat_lt 0 (run_tally_there (slice_get runs r)).cancelled ≡ is_any_job_cancelled run
-  told_cancelled =
-      ap (λ (t : RunTally). nat_lt 0 t.cancelled) tally_is
-      ∙ sym (any-counted (λ job. is_cancelled (standing_of job).result) run.jobs)
-      ∙ (λ i. list_any (λ job. is_cancelled (standing-result run going job i)) run.jobs)
-
-  pub run_told : (stop : Bool) → stop ≡ run.stop → told_result stop (run_tally_there (slice_get runs r)) ≡ run_result run
-  run_told stop stop_is = λ i. if told_failed i then Outcome.Failure else (if stop_is i || told_cancelled i then Outcome.Cancelled else Outcome.Success)
+pub result_told : (run : Run) → is_going run.state ≡ true → told_result run.stop (run_tally run) ≡ run_result run
+result_told run going =
+    let failed = any-result run going is_failure in
+    let cancelled = any-result run going is_cancelled in
+    λ i. if failed i then Outcome.Failure else (if run.stop || cancelled i then Outcome.Cancelled else Outcome.Success)

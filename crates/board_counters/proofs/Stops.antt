@@ -105,12 +105,6 @@ leg_told_kept b new place f old made counted new_is keeps made_is =
     (λ job. length-changed job.legs place.leg f) (λ job. sum-kept (λ (leg : Leg). one leg.stop) job.legs place.leg f (λ leg. ap one (keeps leg))))
     ∙ ap (λ (x : Board). map run_legs x.runs) (sym new_is)
 
-pub run_told_kept : (runs : List Run) (r : ℕ) (f : Run → Run) → ((run : Run) → (f run).jobs ≡ run.jobs) → map run_legs (changed runs r f) ≡ map run_legs runs
-run_told_kept runs r f keeps = map-same run_legs runs r f (λ run at. ap counted (keeps run))
-  where
-    counted : List Job → RunLegs
-    counted jobs = record { all = legs_of_jobs jobs; told = sum_by told_of jobs }
-
 -- ---- the board on which all is new
 
 -- a sum of so many that are 0
@@ -140,5 +134,5 @@ new_few p b rules sound new =
 
 -- ---- what they tell of a run
 
-pub told_legs : (legs : List RunLegs) (all : List Run) (r : ℕ) (run : Run) → legs ≡ map run_legs all → slice_get all r ≡ Some run → run_legs_there (slice_get legs r) ≡ run_legs run
-told_legs legs all r run counted at = ap (λ ts. run_legs_there (slice_get ts r)) counted ∙ ap run_legs_there (map-get run_legs all r run at)
+pub told_legs : (runs : List Run) (r : ℕ) (run : Run) → slice_get runs r ≡ Some run → run_legs_there (slice_get (map run_legs runs) r) ≡ run_legs run
+told_legs runs r run at = ap run_legs_there (map-get run_legs runs r run at)

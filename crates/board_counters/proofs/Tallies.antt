@@ -1,13 +1,13 @@
 -- The tallies of a board after a change.
 use Rattle.std.proofs.Common.{◌≡◌, ℕ, zero, suc, inl, inr, Bool, true, false, List, [], ◌∷◌, Option, Some, None, map, option_map, slice_get, length, ap, subst, sym, refl, ◌∙◌}
-use Rattle.status_table.specs.Words.{Board, Job, JobPlace, JobState, Leg, LegPlace, LegState, Run, changed, leg_after, leg_there, with_job, with_leg, with_run, ◌>>=◌}
+use Rattle.status_table.specs.Words.{Board, Job, Leg, LegPlace, LegState, Run, changed, leg_after, leg_there, with_leg, ◌>>=◌}
 use Rattle.board_counters.specs.Changes.{CameTo, leg_was, retallied, state_in, state_of, state_there}
 use Rattle.board_counters.specs.Counters.{counts, counted, tally_of, tallies_of, turned, moved}
 use Rattle.status_table.specs.declared.change.LegChange.{LegChange}
 use Rattle.board_counters.specs.declared.tally.Tally.{Tally}
 use Rattle.board_counters.specs.declared.tally.Counter.{Counter}
-use Rattle.board_counters.proofs.Lists.{map-changed, map-same, changed-none, changed-same, count-changed}
-use Rattle.status_table.proofs.Lists.{length-changed, changed-cons, changed-there}
+use Rattle.board_counters.proofs.Lists.{map-changed, changed-none, changed-same, count-changed}
+use Rattle.status_table.proofs.Lists.{length-changed, changed-cons}
 
 -- ---- one job
 
@@ -38,23 +38,37 @@ in_job place f job = record job { legs = changed job.legs place.leg f }
 abbrev pub in_run : LegPlace → (Leg → Leg) → Run → Run
 in_run place f run = record run { jobs = changed run.jobs place.job (in_job place f) }
 
+-- the leg at a place after it was changed
+pub get_changed : {T : Type 0} (xs : List T) (i : ℕ) (f : T → T) → slice_get (changed xs i f) i ≡ option_map f (slice_get xs i)
+get_changed [] i f = refl
+get_changed (x ∷ xs) zero f = refl
+get_changed (x ∷ xs) (suc i) f = ap (λ ys. slice_get ys (suc i)) (changed-cons x xs i f) ∙ get_changed xs i f
+
+pub leg_there_changed : (b : Board) (place : LegPlace) (f : Leg → Leg) → leg_there (with_leg b place f) place ≡ option_map f (leg_there b place)
+leg_there_changed b place f =
+    ap (λ (o : Option Run). o >>= λ run. slice_get run.jobs place.job >>= λ job. slice_get job.legs place.leg) (get_changed b.runs place.run (in_run place f))
+    ∙ by_run (slice_get b.runs place.run)
+  where
+    by_job : (o : Option Job) → (option_map (in_job place f) o >>= λ job. slice_get job.legs place.leg) ≡ option_map f (o >>= λ job. slice_get job.legs place.leg)
+    by_job None = refl
+    by_job (Some job) = get_changed job.legs place.leg f
+
+    by_run : (o : Option Run) → (option_map (in_run place f) o >>= λ run. slice_get run.jobs place.job >>= λ job. slice_get job.legs place.leg)
+        ≡ option_map f (o >>= λ run. slice_get run.jobs place.job >>= λ job. slice_get job.legs place.leg)
+    by_run None = refl
+    by_run (Some run) =
+        ap (λ (o : Option Job). o >>= λ job. slice_get job.legs place.leg) (get_changed run.jobs place.job (in_job place f)) ∙ by_job (slice_get run.jobs place.job)
+
 module _ (b : Board) (place : LegPlace) (f : Leg → Leg) (run : Run) (job : Job) (in_runs : slice_get b.runs place.run ≡ Some run) (in_jobs : slice_get run.jobs place.job ≡ Some job) where
-  old_there : leg_there b place ≡ slice_get job.legs place.leg
-  old_there = there b place run job in_runs in_jobs
+  counted_job : (o : Option Leg) → slice_get job.legs place.leg ≡ o → tally_of (in_job place f job) ≡ moved (state_of o) (state_of (option_map f o)) (tally_of job)
+  counted_job None at = ap (λ (ls : List Leg). tally_of (record job { legs = ls })) (changed-none job.legs place.leg f at)
+  counted_job (Some leg) at = tally-changed job place.leg f leg at
 
-  new_there : leg_there (with_leg b place f) place ≡ slice_get (changed job.legs place.leg f) place.leg
-  new_there = there (with_leg b place f) place (in_run place f run) (in_job place f job) (changed-there b.runs place.run (in_run place f) run in_runs) (changed-there run.jobs place.job (in_job place f) job in_jobs)
-
-  one_job : (o : Option Leg) → slice_get job.legs place.leg ≡ o → tally_of (in_job place f job) ≡ moved (state_there b place) (state_there (with_leg b place f) place) (tally_of job)
-  one_job None at =
-      let same = changed-none job.legs place.leg f at in
-      let old : state_there b place ≡ state_of None = ap state_of (old_there ∙ at) in
-      let new : state_there (with_leg b place f) place ≡ state_of None = ap state_of (new_there ∙ ap (λ ls. slice_get ls place.leg) same ∙ at) in
-      ap (λ (ls : List Leg). tally_of (record job { legs = ls })) same ∙ sym (λ i. moved (old i) (new i) (tally_of job))
-  one_job (Some leg) at =
-      let old : state_there b place ≡ leg.state = ap state_of (old_there ∙ at) in
-      let new : state_there (with_leg b place f) place ≡ (f leg).state = ap state_of (new_there ∙ changed-there job.legs place.leg f leg at) in
-      tally-changed job place.leg f leg at ∙ sym (λ i. moved (old i) (new i) (tally_of job))
+  one_job : tally_of (in_job place f job) ≡ moved (state_there b place) (state_there (with_leg b place f) place) (tally_of job)
+  one_job =
+      let old = there b place run job in_runs in_jobs in
+      let new = leg_there_changed b place f ∙ ap (option_map f) old in
+      counted_job (slice_get job.legs place.leg) refl ∙ sym (λ i. moved (state_of (old i)) (state_of (new i)) (tally_of job))
 
 -- the tallies after a leg was changed
 pub leg_tallies : (b : Board) (place : LegPlace) (f : Leg → Leg)
@@ -62,7 +76,7 @@ pub leg_tallies : (b : Board) (place : LegPlace) (f : Leg → Leg)
 leg_tallies b place f = sym (map-changed (λ (run : Run). map tally_of run.jobs) b.runs place.run (in_run place f)
     (λ row. changed row place.job (moved (state_there b place) (state_there (with_leg b place f) place)))
     (λ run in_runs. map-changed tally_of run.jobs place.job (in_job place f) (moved (state_there b place) (state_there (with_leg b place f) place))
-    (λ job in_jobs. one_job b place f run job in_runs in_jobs (slice_get job.legs place.leg) refl)))
+    (λ job in_jobs. one_job b place f run job in_runs in_jobs)))
 
 -- where it is counted alike, they stay
 pub alike_tallies : (place : LegPlace) (before after : LegState) (tallies : List (List Tally)) → ((t : Tally) → moved before after t ≡ t)
@@ -95,33 +109,12 @@ tallied_so b new place f before after tallies tallied new_is so =
     ∙ leg_tallies b place f
     ∙ ap tallies_of (sym new_is)
 
--- the leg at a place after it was changed
-pub get_changed : {T : Type 0} (xs : List T) (i : ℕ) (f : T → T) → slice_get (changed xs i f) i ≡ option_map f (slice_get xs i)
-get_changed [] i f = refl
-get_changed (x ∷ xs) zero f = refl
-get_changed (x ∷ xs) (suc i) f = ap (λ ys. slice_get ys (suc i)) (changed-cons x xs i f) ∙ get_changed xs i f
-
-pub leg_there_changed : (b : Board) (place : LegPlace) (f : Leg → Leg) → leg_there (with_leg b place f) place ≡ option_map f (leg_there b place)
-leg_there_changed b place f =
-    ap (λ (o : Option Run). o >>= λ run. slice_get run.jobs place.job >>= λ job. slice_get job.legs place.leg) (get_changed b.runs place.run (in_run place f))
-    ∙ by_run (slice_get b.runs place.run)
-  where
-    by_job : (o : Option Job) → (option_map (in_job place f) o >>= λ job. slice_get job.legs place.leg) ≡ option_map f (o >>= λ job. slice_get job.legs place.leg)
-    by_job None = refl
-    by_job (Some job) = get_changed job.legs place.leg f
-
-    by_run : (o : Option Run) → (option_map (in_run place f) o >>= λ run. slice_get run.jobs place.job >>= λ job. slice_get job.legs place.leg)
-        ≡ option_map f (o >>= λ run. slice_get run.jobs place.job >>= λ job. slice_get job.legs place.leg)
-    by_run None = refl
-    by_run (Some run) =
-        ap (λ (o : Option Job). o >>= λ job. slice_get job.legs place.leg) (get_changed run.jobs place.job (in_job place f)) ∙ by_job (slice_get run.jobs place.job)
-
 -- what is exchanged tells how the leg is counted
-exchanged_so : (b new : Board) (place : LegPlace) (how back : LegChange) → new ≡ with_leg b place (leg_after how) → back ≡ leg_was how (leg_there b place)
-    → ComesSo b new place (state_in back) (state_in how)
+pub exchanged_told : (b new : Board) (place : LegPlace) (how back : LegChange) (before after : LegState) → new ≡ with_leg b place (leg_after how) → back ≡ leg_was how (leg_there b place)
+    → before ≡ state_in back → after ≡ state_in how → ComesSo b new place before after
 unfolding ComesSo
-exchanged_so b new place how back new_is back_is = λ t.
-    (λ i. moved (state_in (back_is i)) (state_in how) t)
+exchanged_told b new place how back before after new_is back_is before_is after_is = λ t.
+    (λ i. moved ((before_is ∙ ap state_in back_is) i) (after_is i) t)
     ∙ by (leg_there b place) how t
     ∙ sym (λ i. moved (state_there b place) (state_of ((ap (λ (x : Board). leg_there x place) new_is ∙ leg_there_changed b place (leg_after how)) i)) t)
   where
@@ -129,11 +122,6 @@ exchanged_so b new place how back new_is back_is = λ t.
     by None how t = moved_same (state_in how) t ∙ sym (moved_same LegState.Fresh t)
     by (Some leg) (LegChange.Stop stop) t = moved_same LegState.Fresh t ∙ sym (moved_same leg.state t)
     by (Some leg) how t = refl
-
-pub exchanged_told : (b new : Board) (place : LegPlace) (how back : LegChange) (before after : LegState) → new ≡ with_leg b place (leg_after how) → back ≡ leg_was how (leg_there b place)
-    → before ≡ state_in back → after ≡ state_in how → ComesSo b new place before after
-unfolding ComesSo
-exchanged_told b new place how back before after new_is back_is before_is after_is = λ t. (λ i. moved (before_is i) (after_is i) t) ∙ exchanged_so b new place how back new_is back_is t
 
 pub same_so : (b new : Board) (place : LegPlace) (before after : LegState) → before ≡ state_there b place → after ≡ state_there new place → ComesSo b new place before after
 unfolding ComesSo
@@ -149,11 +137,3 @@ came_to b new place f before to before_is new_is puts =
     by : (o : Option Leg) → CameTo (state_of o) to (state_of (option_map f o))
     by None = inr refl
     by (Some leg) = inl (puts leg)
-
--- they stay where a job comes into a state, and where a run is changed, but not its jobs
-pub job_tallies : (b : Board) (place : JobPlace) (state : JobState) → tallies_of (with_job b place (λ job. record job { state = state })) ≡ tallies_of b
-job_tallies b place state = map-same (λ (run : Run). map tally_of run.jobs) b.runs place.run (λ run. record run { jobs = changed run.jobs place.job (λ job. record job { state = state }) })
-    (λ run in_runs. map-same tally_of run.jobs place.job (λ (job : Job). record job { state = state }) (λ job in_jobs. refl))
-
-pub run_tallies : (b : Board) (r : ℕ) (f : Run → Run) → ((run : Run) → (f run).jobs ≡ run.jobs) → tallies_of (with_run b r f) ≡ tallies_of b
-run_tallies b r f keeps = map-same (λ (run : Run). map tally_of run.jobs) b.runs r f (λ run in_runs. ap (map tally_of) (keeps run))

@@ -50,49 +50,30 @@ leg-there b place f g step = run-there b place.run (in_run place f) (in_run plac
 
 -- ---- each change of a board
 
-pub run_back : (b new : Board) (r : ℕ) (how was : RunChange) → new ≡ with_run b r (run_after how) → was ≡ run_was how (slice_get b.runs r)
-    → with_run new r (run_after was) ≡ b
-run_back b new r how was new_is was_is =
-    (λ i. with_run (new_is i) r (run_after (was_is i)))
-    ∙ run-there b r (run_after how) (run_after (run_was how (slice_get b.runs r))) (λ run at. ap (λ o. run_after (run_was how o) (run_after how run)) at ∙ run-back how run)
+pub run_back : (b : Board) (r : ℕ) (how : RunChange) → with_run (with_run b r (run_after how)) r (run_after (run_was how (slice_get b.runs r))) ≡ b
+run_back b r how = run-there b r (run_after how) (run_after (run_was how (slice_get b.runs r))) (λ run at. ap (λ o. run_after (run_was how o) (run_after how run)) at ∙ run-back how run)
 
-pub leg_back : (b new : Board) (place : LegPlace) (how was : LegChange) → new ≡ with_leg b place (leg_after how) → was ≡ leg_was how (leg_there b place)
-    → with_leg new place (leg_after was) ≡ b
-leg_back b new place how was new_is was_is =
-    (λ i. with_leg (new_is i) place (leg_after (was_is i)))
-    ∙ leg-there b place (leg_after how) (leg_after (leg_was how (leg_there b place))) (λ leg at. ap (λ o. leg_after (leg_was how o) (leg_after how leg)) at ∙ leg-back how leg)
+pub leg_back : (b : Board) (place : LegPlace) (how : LegChange) → with_leg (with_leg b place (leg_after how)) place (leg_after (leg_was how (leg_there b place))) ≡ b
+leg_back b place how = leg-there b place (leg_after how) (leg_after (leg_was how (leg_there b place))) (λ leg at. ap (λ o. leg_after (leg_was how o) (leg_after how leg)) at ∙ leg-back how leg)
 
-pub job_back : (b new : Board) (place : JobPlace) (state was : JobState) → new ≡ job_state_set b place state → was ≡ job_state_there b place
-    → job_state_set new place was ≡ b
-job_back b new place state was new_is was_is =
-    (λ i. job_state_set (new_is i) place was)
-    ∙ job-there b place (λ job. record job { state = state }) (λ job. record job { state = was }) (λ job at.
-    ap (λ (s : JobState). record job { state = s }) (was_is ∙ ap job_state_of at))
+pub job_back : (b : Board) (place : JobPlace) (state : JobState) → job_state_set (job_state_set b place state) place (job_state_there b place) ≡ b
+job_back b place state = job-there b place (λ job. record job { state = state }) (λ job. record job { state = job_state_there b place }) (λ job at.
+    ap (λ (s : JobState). record job { state = s }) (ap job_state_of at))
 
-pub step_back : (b new : Board) (place : LegPlace) (worker : ℕ) (done : DoneStep) (was : LegState) → new ≡ step_done b place worker done → was ≡ state_there b place
-    → with_leg new place (step_taken was) ≡ b
-step_back b new place worker done was new_is was_is =
-    (λ i. with_leg (new_is i) place (step_taken was))
-    ∙ leg-there b place (λ leg. record leg { state = LegState.Running worker false; steps = leg.steps ++ done ∷ [] }) (step_taken was) (λ leg at i.
-    record leg { state = (was_is ∙ ap state_of at) i; steps = front-more leg.steps done i })
+pub step_back : (b : Board) (place : LegPlace) (worker : ℕ) (done : DoneStep) → with_leg (step_done b place worker done) place (step_taken (state_there b place)) ≡ b
+step_back b place worker done = leg-there b place (λ leg. record leg { state = LegState.Running worker false; steps = leg.steps ++ done ∷ [] }) (step_taken (state_there b place)) (λ leg at i.
+    record leg { state = state_of (at i); steps = front-more leg.steps done i })
 
-pub state_back : (b new : Board) (place : LegPlace) (state was : LegState) → new ≡ leg_state_set b place state → was ≡ state_there b place
-    → leg_state_set new place was ≡ b
-state_back b new place state was new_is was_is =
-    (λ i. leg_state_set (new_is i) place was)
-    ∙ leg-there b place (λ leg. record leg { state = state }) (λ leg. record leg { state = was }) (λ leg at.
-    ap (λ (s : LegState). record leg { state = s }) (was_is ∙ ap state_of at))
+pub state_back : (b : Board) (place : LegPlace) (state : LegState) → leg_state_set (leg_state_set b place state) place (state_there b place) ≡ b
+state_back b place state = leg-there b place (λ leg. record leg { state = state }) (λ leg. record leg { state = state_there b place }) (λ leg at.
+    ap (λ (s : LegState). record leg { state = s }) (ap state_of at))
 
 -- ---- all changes of a board
 
-undone-last : (xs : List Change) (x : Change) (b : Board) → undone (xs ++ x ∷ []) b ≡ undone xs (board_before x b)
-undone-last [] x b = refl
-undone-last (y ∷ ys) x b = ap (board_before y) (undone-last ys x b)
-
--- one more change leads back to the same board
-pub still_back : (xs ys : List Change) (x : Change) (b new : Board) → ys ≡ xs ++ x ∷ [] → board_before x new ≡ b → undone ys new ≡ undone xs b
-still_back xs ys x b new more is = ap (λ (zs : List Change). undone zs new) more ∙ undone-last xs x new ∙ ap (undone xs) is
+pub undone_last : (xs : List Change) (x : Change) (b : Board) → undone (xs ++ x ∷ []) b ≡ undone xs (board_before x b)
+undone_last [] x b = refl
+undone_last (y ∷ ys) x b = ap (board_before y) (undone_last ys x b)
 
 -- the last one is taken back first
 pub one_back : (xs ys : List Change) (x : Change) (b new : Board) → ys ≡ xs ++ x ∷ [] → new ≡ board_before x b → undone xs new ≡ undone ys b
-one_back xs ys x b new more is = ap (undone xs) is ∙ sym (undone-last xs x b) ∙ ap (λ (zs : List Change). undone zs b) (sym more)
+one_back xs ys x b new more is = ap (undone xs) is ∙ sym (undone_last xs x b) ∙ ap (λ (zs : List Change). undone zs b) (sym more)

@@ -1,6 +1,6 @@
 -- How the jobs of a run that is Going stand, and how many of them stand how.
 use Rattle.std.specs.Prelude.{ℕ, ◌==◌, ◌&&◌, ◌||◌, Bool, true, false, not, List, length, nat_lt, count_by, Option, Some, None, slice_get, if◌then◌else◌}
-use Rattle.status_table.specs.Words.{Job, JobState, Outcome, Run, RunState, is_cancelled, is_failure, is_open, is_success, result_by}
+use Rattle.status_table.specs.Words.{Job, JobState, Outcome, Run, RunState, is_cancelled, is_failure, is_open, is_success, result_by, is_shut}
 use Rattle.board_counters.specs.Counters.{is_settled, tally_of, turned}
 use Rattle.board_counters.specs.declared.standing.JobStanding.{JobStanding}
 use Rattle.board_counters.specs.declared.standing.JobCounter.{JobCounter}
@@ -53,31 +53,21 @@ abbrev pub tally_result : Tally → Outcome
 tally_result t =
     if nat_lt 0 t.failed then Outcome.Failure else (if nat_lt 0 t.cancelled then Outcome.Cancelled else Outcome.Success)
 
+-- what a job in a state comes to, with a tally
+abbrev pub result_with : JobState → Tally → Outcome
+result_with (JobState.Shut how) t = how
+result_with JobState.Open t = tally_result t
+result_with JobState.Unjudged t = tally_result t
+
 -- how a job stands in a state, with a tally
 abbrev pub standing_by : JobState → Tally → JobStanding
-standing_by (JobState.Shut how) t =
+standing_by state t =
     record {
-      is_settled = true;
-      result = how;
-      is_unjudged = false;
-      may_ask = false;
-      may_drop = false;
-    }
-standing_by JobState.Open t =
-    record {
-      is_settled = t.pending == 0;
-      result = tally_result t;
-      is_unjudged = false;
-      may_ask = has_fresh t;
-      may_drop = has_left t;
-    }
-standing_by JobState.Unjudged t =
-    record {
-      is_settled = t.pending == 0;
-      result = tally_result t;
-      is_unjudged = true;
-      may_ask = false;
-      may_drop = false;
+      is_settled = is_shut state || (t.pending == 0);
+      result = result_with state t;
+      is_unjudged = is_unjudged state;
+      may_ask = is_open state && has_fresh t;
+      may_drop = is_open state && has_left t;
     }
 
 -- how a job stands by its tally, where both are there

@@ -100,6 +100,7 @@ pub(crate) fn exchange_state_at(board: &mut Board, place: LegPlace, state: LegSt
 /// Adds a done step to the leg at a place, where there is one, which is idle again, and gives the state in which it was;
 /// where memory runs out, nothing is changed.
 #[inline(always)]
+#[tactic(auto, using(crate::proofs::Lists::set_same))]
 pub(crate) fn push_step_at(
     board: &mut Board,
     place: LegPlace,
@@ -207,6 +208,7 @@ fn make_leg_room(alloc: Global, leg: &mut Leg, steps: usize) -> Result<(), Alloc
 }
 
 /// Makes room for so many steps in the leg at a place, where there is one.
+#[tactic(auto, using(crate::proofs::Lists::set_same))]
 pub(crate) fn make_room(
     alloc: Global,
     board: &mut Board,

@@ -14,7 +14,6 @@ use crate::change::{
     push_step_at, state_in, stop_in, take_step_at, without_last,
 };
 use crate::counts::{Counts, LegTurn, count_all, recount_job, recount_leg, standing_at};
-use crate::dependents::Dependents;
 use crate::failing::{Failing, failing_at, note_done, note_taken, runs_failing};
 use crate::lasting::{Lasting, calls_at, lasting_of, place_at};
 use crate::need::Need;
@@ -102,10 +101,10 @@ fn needs_none_at(needs: &[Sequence<Need>], place: JobPlace) -> bool
 
 /// Counts again after the leg at a place, where there is one, came from a state to another.
 #[inline(always)]
-fn recount_to(counts: &mut Counts, board: &Board, dependents: &Sequence<Dependents>, turn: LegTurn)
+fn recount_to(counts: &mut Counts, board: &Board, lasting: &Lasting, turn: LegTurn)
     requires { spec.CameTo turn.was turn.is (spec.state_there board.now turn.place) }
     ensures { spec.LegRecounted turn.place turn.was (spec.state_there board.now turn.place)
-        (slice_get board.now.runs turn.place.run) dependents.now counts.old counts.new }
+        (slice_get board.now.runs turn.place.run) lasting.now.dependents counts.old counts.new }
 {
     if are_alike(turn.was, turn.is) {
         return;
@@ -115,7 +114,7 @@ fn recount_to(counts: &mut Counts, board: &Board, dependents: &Sequence<Dependen
         was: turn.was,
         is: state_there(board, turn.place),
     };
-    recount_leg(counts, board, dependents, there);
+    recount_leg(counts, board, lasting, there);
 }
 
 /// A plan, how far it is, and what is counted of that.
@@ -205,6 +204,7 @@ impl Counted {
     }
 
     /// The place of the job with a number.
+    #[tactic(auto, using(board_decisions::proofs::Placed::job_placed))]
     pub fn job_place(&self, number: u64) -> Option<JobPlace>
         ensures { result ≡ job_place self.now.board number }
     {
@@ -213,6 +213,7 @@ impl Counted {
 
     /// The place of the leg with a number.
     #[inline(always)]
+    #[tactic(auto, using(board_decisions::proofs::Placed::leg_placed))]
     pub fn leg_place(&self, number: u64) -> Option<LegPlace>
         ensures { result ≡ leg_place self.now.board number }
     {
@@ -235,6 +236,7 @@ impl Counted {
     }
 
     /// How the jobs of the run at a place stand.
+    #[tactic(auto, using(crate::proofs::Standings::told_tally))]
     pub fn run_tally(&self, place: usize) -> RunTally
         ensures { (run : RunOf)
             → slice_get self.now.board.runs place ≡ Some run → result ≡ run_tally_of run }
@@ -243,6 +245,7 @@ impl Counted {
     }
 
     /// How many legs the jobs of the run at a place have, and how many of them are told to stop.
+    #[tactic(auto, using(crate::proofs::Stops::told_legs))]
     pub fn run_legs(&self, place: usize) -> RunLegs
         ensures { (run : RunOf)
             → slice_get self.now.board.runs place ≡ Some run → result ≡ run_legs_of run }
@@ -263,6 +266,7 @@ impl Counted {
 
     /// Whether a done step of the leg at a place counts as a failure.
     #[inline(always)]
+    #[tactic(auto, using(crate::proofs::Failings::failing_there))]
     pub fn has_failed_step(&self, place: LegPlace) -> bool
         ensures { (leg : LegOf) → leg_there self.now.board place ≡ Some leg
             → result ≡ any_failed leg.steps }
@@ -271,6 +275,7 @@ impl Counted {
     }
 
     /// Changes the leg at a place, where there is one, and gives what takes that back.
+    #[tactic(auto, using(crate::proofs::Undone::leg_back))]
     pub fn change_leg(&mut self, place: LegPlace, how: LegChange) -> Change
         ensures plan { self.new.plan ≡ self.old.plan }
         ensures board { self.new.board ≡ with_leg self.old.board place (leg_after how) }
@@ -281,18 +286,14 @@ impl Counted {
         let how = exchange_leg_at(&mut self.board, place, how);
         let was = state_in(&how);
         let turn = LegTurn { place, was, is };
-        recount_leg(
-            &mut self.counts,
-            &self.board,
-            &self.lasting.dependents,
-            turn,
-        );
+        recount_leg(&mut self.counts, &self.board, &self.lasting, turn);
         retell(&mut self.counts.legs, place.run, stop_in(&how), is_told);
         Change::Leg(place, how)
     }
 
     /// Puts the leg at a place, where there is one, into a state, and gives that in which it was.
     #[inline(always)]
+    #[tactic(auto, using(crate::proofs::Undone::state_back))]
     pub fn set_leg_state(&mut self, place: LegPlace, to: LegState) -> LegState
         ensures plan { self.new.plan ≡ self.old.plan }
         ensures board { self.new.board ≡ row.leg_state_set self.old.board place to }
@@ -300,16 +301,12 @@ impl Counted {
     {
         let was = exchange_state_at(&mut self.board, place, to);
         let turn = LegTurn { place, was, is: to };
-        recount_to(
-            &mut self.counts,
-            &self.board,
-            &self.lasting.dependents,
-            turn,
-        );
+        recount_to(&mut self.counts, &self.board, &self.lasting, turn);
         was
     }
 
     /// Puts a job into a state, and gives what takes that back.
+    #[tactic(auto, using(crate::proofs::Undone::job_back))]
     pub fn set_job(&mut self, place: JobPlace, state: JobState) -> Change
         ensures plan { self.new.plan ≡ self.old.plan }
         ensures board { self.new.board ≡ row.job_state_set self.old.board place state }
@@ -319,13 +316,7 @@ impl Counted {
         let before = standing_at(&self.board, self.counts.tallies.as_slice(), place);
         set_job_state(&mut self.board, place, state);
         let after = standing_at(&self.board, self.counts.tallies.as_slice(), place);
-        recount_job(
-            &mut self.counts,
-            &self.lasting.dependents,
-            place,
-            before,
-            after,
-        );
+        recount_job(&mut self.counts, &self.lasting, place, before, after);
         Change::Job(place, was)
     }
 
@@ -345,6 +336,7 @@ impl Counted {
     /// Adds a done step to the leg at a place, where there is one, which is idle again, and gives the state in which it was;
     /// where memory runs out, nothing is changed.
     #[inline(always)]
+    #[tactic(auto, using(crate::proofs::Undone::step_back))]
     pub fn add_done(
         &mut self,
         place: LegPlace,
@@ -364,12 +356,7 @@ impl Counted {
         let in_call = false;
         let is = LegState::Running { worker, in_call };
         let turn = LegTurn { place, was, is };
-        recount_to(
-            &mut self.counts,
-            &self.board,
-            &self.lasting.dependents,
-            turn,
-        );
+        recount_to(&mut self.counts, &self.board, &self.lasting, turn);
         Ok(was)
     }
 
@@ -386,15 +373,11 @@ impl Counted {
             was,
             is: state,
         };
-        recount_to(
-            &mut self.counts,
-            &self.board,
-            &self.lasting.dependents,
-            turn,
-        );
+        recount_to(&mut self.counts, &self.board, &self.lasting, turn);
     }
 
     /// Changes the run at a place, where there is one, but not its jobs, and gives what takes that back.
+    #[tactic(auto, using(crate::proofs::Undone::run_back))]
     pub fn change_run(&mut self, place: usize, how: RunChange) -> Change
         ensures plan { self.new.plan ≡ self.old.plan }
         ensures board { self.new.board ≡ with_run self.old.board place (spec.run_after how) }
@@ -454,7 +437,7 @@ impl Counted {
         ensures { (run : RunOf) → slice_get self.now.board.runs place ≡ Some run
             → is_going run.state ≡ true → result ≡ jobs_have_ended run }
     {
-        run_tally_at(self.counts.runs.as_slice(), place).pending == 0
+        self.run_tally(place).pending == 0
     }
 
     /// Whether each job of a run counts as a success so far, where it is Going.
@@ -462,7 +445,7 @@ impl Counted {
         ensures { (run : RunOf) → slice_get self.now.board.runs place ≡ Some run
             → is_going run.state ≡ true → result ≡ all_succeed run }
     {
-        run_tally_at(self.counts.runs.as_slice(), place).unsuccessful == 0
+        self.run_tally(place).unsuccessful == 0
     }
 
     /// The result with which a run is closed that is Going, by whether it is told to stop.
@@ -470,6 +453,6 @@ impl Counted {
         ensures { (run : RunOf) → slice_get self.now.board.runs place ≡ Some run
             → is_going run.state ≡ true → stop ≡ run.stop → result ≡ run_result run }
     {
-        run_tally_at(self.counts.runs.as_slice(), place).result(stop)
+        self.run_tally(place).result(stop)
     }
 }

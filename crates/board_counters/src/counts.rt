@@ -10,6 +10,7 @@ ghost use Rattle.status_table.specs.Change.{changed};
 
 use crate::counted::job_of;
 use crate::dependents::{Dependents, dependents_at};
+use crate::lasting::Lasting;
 use crate::need::{Need, needs_of, turn_needs};
 use crate::standing::{JobStanding, RunTally, no_standing, run_moved, standing_by, tally_run};
 use crate::stopping::{RunLegs, legs_of_each};
@@ -204,7 +205,7 @@ fn recount_jobs(runs: &mut Sequence<RunTally>, place: usize, was: JobStanding, i
 /// Counts again after the job at a place stood so, and now stands otherwise.
 pub(crate) fn recount_job(
     counts: &mut Counts,
-    dependents: &Sequence<Dependents>,
+    lasting: &Lasting,
     place: JobPlace,
     was: JobStanding,
     is: JobStanding,
@@ -213,14 +214,14 @@ pub(crate) fn recount_job(
     ensures legs { counts.new.legs ≡ counts.old.legs }
     ensures runs { counts.new.runs ≡ changed counts.old.runs place.run (run_moved_of was is) }
     ensures needs { counts.new.needs ≡ spec.resettled was.is_settled is.is_settled place.run
-        (places_that_need dependents.now place) counts.old.needs }
+        (places_that_need lasting.now.dependents place) counts.old.needs }
 {
     recount_jobs(&mut counts.runs, place.run, was, is);
     turn_if(
         was.is_settled,
         is.is_settled,
         &mut counts.needs,
-        dependents,
+        &lasting.dependents,
         place,
     );
 }
@@ -234,14 +235,9 @@ pub(crate) struct LegTurn {
 }
 
 /// Counts again after a leg came from a state to another; the states of jobs are as they were.
-pub(crate) fn recount_leg(
-    counts: &mut Counts,
-    board: &Board,
-    dependents: &Sequence<Dependents>,
-    turn: LegTurn,
-)
+pub(crate) fn recount_leg(counts: &mut Counts, board: &Board, lasting: &Lasting, turn: LegTurn)
     ensures { spec.LegRecounted turn.place turn.was turn.is
-        (slice_get board.now.runs turn.place.run) dependents.now counts.old counts.new }
+        (slice_get board.now.runs turn.place.run) lasting.now.dependents counts.old counts.new }
 {
     if are_alike(turn.was, turn.is) {
         return;
@@ -250,5 +246,5 @@ pub(crate) fn recount_leg(
     let before = standing_at(board, counts.tallies.as_slice(), job);
     retally(&mut counts.tallies, turn.place, turn.was, turn.is);
     let after = standing_at(board, counts.tallies.as_slice(), job);
-    recount_job(counts, dependents, job, before, after);
+    recount_job(counts, lasting, job, before, after);
 }

@@ -105,32 +105,27 @@ fn has_left(tally: Tally) -> bool
     tally.failed > 0 && tally.pending > 0
 }
 
+/// What a job in a state comes to, with a tally.
+fn result_with(state: JobState, tally: Tally) -> Outcome
+    ensures { result ≡ spec.result_with state tally }
+{
+    match state {
+        JobState::Shut(how) => how,
+        JobState::Open | JobState::Unjudged => tally_result(tally),
+    }
+}
+
 /// How a job stands in a state, with a tally.
 pub(crate) fn standing_by(state: JobState, tally: Tally) -> JobStanding
     ensures { result ≡ spec.standing_by state tally }
 {
-    match state {
-        JobState::Shut(how) => JobStanding {
-            is_settled: true,
-            result: how,
-            is_unjudged: false,
-            may_ask: false,
-            may_drop: false,
-        },
-        JobState::Open => JobStanding {
-            is_settled: tally.pending == 0,
-            result: tally_result(tally),
-            is_unjudged: false,
-            may_ask: has_fresh(tally),
-            may_drop: has_left(tally),
-        },
-        JobState::Unjudged => JobStanding {
-            is_settled: tally.pending == 0,
-            result: tally_result(tally),
-            is_unjudged: true,
-            may_ask: false,
-            may_drop: false,
-        },
+    let is_open = matches!(state, JobState::Open);
+    JobStanding {
+        is_settled: matches!(state, JobState::Shut(_)) || tally.pending == 0,
+        result: result_with(state, tally),
+        is_unjudged: matches!(state, JobState::Unjudged),
+        may_ask: is_open && has_fresh(tally),
+        may_drop: is_open && has_left(tally),
     }
 }
 

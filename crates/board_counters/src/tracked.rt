@@ -172,6 +172,7 @@ impl Tracked {
     }
 
     /// Changes the leg at a place, where there is one.
+    #[tactic(auto, using(crate::proofs::Undone::undone_last))]
     pub fn change_leg(&mut self, place: LegPlace, how: LegChange)
         requires { 1 ≤ self.old.room }
         ensures plan { self.new.plan ≡ self.old.plan }
@@ -184,6 +185,7 @@ impl Tracked {
     }
 
     /// Puts a job into a state.
+    #[tactic(auto, using(crate::proofs::Undone::undone_last))]
     pub fn set_job(&mut self, place: JobPlace, state: JobState)
         requires { 1 ≤ self.old.room }
         ensures plan { self.new.plan ≡ self.old.plan }
@@ -208,6 +210,7 @@ impl Tracked {
     }
 
     /// Adds a done step to a leg, which is idle again; where memory runs out, nothing is changed.
+    #[tactic(auto, using(crate::proofs::Undone::undone_last))]
     pub fn add_done(
         &mut self,
         place: LegPlace,
@@ -257,6 +260,7 @@ impl Tracked {
     }
 
     /// Changes a run, but not its jobs.
+    #[tactic(auto, using(crate::proofs::Undone::undone_last))]
     pub fn change_run(&mut self, number: u64, how: RunChange)
         requires { 1 ≤ self.old.room }
         ensures plan { self.new.plan ≡ self.old.plan }
@@ -269,6 +273,7 @@ impl Tracked {
     }
 
     /// Notes a leg as the last that ended; where memory runs out, nothing is changed.
+    #[tactic(auto, using(crate::proofs::Undone::undone_last))]
     pub fn push_end(&mut self, number: u64) -> Result<(), AllocError>
         requires { 1 ≤ self.old.room }
         ensures plan { self.new.plan ≡ self.old.plan }

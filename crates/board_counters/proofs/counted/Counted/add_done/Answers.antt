@@ -1,11 +1,10 @@
-use Rattle.std.proofs.Common.{false, [], ◌∷◌, ◌++◌, ap, refl, ◌∙◌}
-use Rattle.status_table.specs.Words.{Leg, LegState, Play}
+use Rattle.std.proofs.Common.{false, [], ◌∷◌, ◌++◌, refl}
+use Rattle.status_table.specs.Words.{Leg, LegState}
 use Rattle.board_counters.proofs.Failings.{failing_done}
 use Rattle.board_counters.proofs.Followed.{leg_counted}
 use Rattle.board_counters.proofs.Stops.{leg_told_kept}
 use Rattle.board_counters.proofs.Tallies.{came_to, same_so}
 use Rattle.board_counters.proofs.counted.Counted.add_done.Goals as goal
-use Rattle.board_counters.proofs.Undone.{step_back}
 
 pub recount_to-requires : goal.recount_to-requires
 recount_to-requires c =
@@ -21,8 +20,3 @@ invariant_of-self-2 c =
     (leg_told_kept c.self.inside.board c.push_step_at.new.board c.args.place done c.self.inside.counts.legs c.recount_to.new.counts.legs c.self.invariant.counted.told c.in_ok-was.ensures.ok (λ leg. refl) c.recount_to.ensures.legs)
     (failing_done c.self.inside.board c.push_step_at.new.board c.args.place c.args.worker c.args.done c.is_failure-failed.result c.self.inside.failing c.note_done.new.failing c.self.invariant.failed
     c.in_ok-was.ensures.ok c.is_failure-failed.ensures c.note_done.ensures)
-
-pub returns-clause-back : goal.returns-clause-back
-returns-clause-back c =
-    step_back c.self.inside.board c.push_step_at.new.board c.args.place c.args.worker c.args.done c.in_ok-was.was' c.in_ok-was.ensures.ok c.in_ok-was.ensures.was
-    ∙ ap (λ (s : Play). s.board) c.self.view_is

@@ -1,12 +1,11 @@
 use Rattle.std.proofs.Common.{ap, sym, ◌∙◌}
-use Rattle.status_table.specs.Words.{Play, changed, leg_after}
+use Rattle.status_table.specs.Words.{changed, leg_after}
 use Rattle.board_counters.specs.Failing.{any_failed, failing_of}
 use Rattle.board_counters.proofs.Failings.{leg_failing_kept, steps_stay}
 use Rattle.board_counters.proofs.Followed.{leg_counted}
 use Rattle.board_counters.proofs.Stops.{told_exchanged}
 use Rattle.board_counters.specs.Stopping.{told_turned}
 use Rattle.board_counters.proofs.Tallies.{exchanged_told}
-use Rattle.board_counters.proofs.Undone.{leg_back}
 use Rattle.board_counters.proofs.counted.Counted.change_leg.Goals as goal
 
 pub invariant_of-self : goal.invariant_of-self
@@ -20,8 +19,3 @@ invariant_of-self c =
     c.self.invariant.counted.told c.exchange_leg_at-how.ensures.board c.exchange_leg_at-how.ensures.was c.stop_in.ensures c.stop_in-is_told.ensures
     (c.retell.ensures ∙ ap (λ ts. changed ts c.args.place.run (told_turned c.stop_in.result c.stop_in-is_told.result)) c.recount_leg.ensures.legs))
     (c.self.invariant.failed ∙ sym (leg_failing_kept c.self.inside.board c.args.place (leg_after c.args.how) (λ leg at. ap any_failed (steps_stay c.args.how leg))) ∙ ap failing_of (sym c.exchange_leg_at-how.ensures.board))
-
-pub returns-clause-back : goal.returns-clause-back
-returns-clause-back c =
-    leg_back c.self.inside.board c.exchange_leg_at-how.new.board c.args.place c.args.how c.exchange_leg_at-how.result c.exchange_leg_at-how.ensures.board c.exchange_leg_at-how.ensures.was
-    ∙ ap (λ (s : Play). s.board) c.self.view_is

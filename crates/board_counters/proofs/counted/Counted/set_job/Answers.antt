@@ -1,9 +1,7 @@
 use Rattle.std.proofs.Common.{ap, slice_get, ◌∙◌}
-use Rattle.status_table.specs.Words.{Play}
 use Rattle.board_counters.specs.Standing.{standing_read}
 use Rattle.board_counters.proofs.Followed.{job_counted}
 use Rattle.board_counters.proofs.counted.Counted.set_job.Goals as goal
-use Rattle.board_counters.proofs.Undone.{job_back}
 
 pub invariant_of-self : goal.invariant_of-self
 invariant_of-self c =
@@ -12,8 +10,3 @@ invariant_of-self c =
     (c.standing_at-before.ensures ∙ ap (λ ts. standing_read (slice_get c.self.inside.board.runs c.args.place.run) (slice_get ts c.args.place.run) c.args.place.job) c.as_slice.ensures)
     (c.standing_at-after.ensures ∙ ap (λ ts. standing_read (slice_get c.set_job_state.new.board.runs c.args.place.run) (slice_get ts c.args.place.run) c.args.place.job) c.as_slice-2.ensures)
     c.recount_job.ensures.tallies c.recount_job.ensures.legs c.recount_job.ensures.runs c.recount_job.ensures.needs
-
-pub returns-clause-back : goal.returns-clause-back
-returns-clause-back c =
-    job_back c.self.inside.board c.set_job_state.new.board c.args.place c.args.state c.job_state_there-was.result c.set_job_state.ensures c.job_state_there-was.ensures
-    ∙ ap (λ (s : Play). s.board) c.self.view_is

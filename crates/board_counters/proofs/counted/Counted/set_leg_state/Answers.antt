@@ -1,11 +1,10 @@
 use Rattle.std.proofs.Common.{ap, refl, sym, ◌∙◌}
-use Rattle.status_table.specs.Words.{Leg, Play}
+use Rattle.status_table.specs.Words.{Leg}
 use Rattle.board_counters.specs.Failing.{failing_of}
 use Rattle.board_counters.proofs.Failings.{leg_failing_kept}
 use Rattle.board_counters.proofs.Followed.{leg_counted}
 use Rattle.board_counters.proofs.Stops.{leg_told_kept}
 use Rattle.board_counters.proofs.Tallies.{came_to, same_so}
-use Rattle.board_counters.proofs.Undone.{state_back}
 use Rattle.board_counters.proofs.counted.Counted.set_leg_state.Goals as goal
 
 pub recount_to-requires : goal.recount_to-requires
@@ -21,8 +20,3 @@ invariant_of-self c =
     (same_so c.self.inside.board c.exchange_state_at-was.new.board c.args.place c.exchange_state_at-was.result _ c.exchange_state_at-was.ensures.was refl) c.recount_to.ensures
     (leg_told_kept c.self.inside.board c.exchange_state_at-was.new.board c.args.place put c.self.inside.counts.legs c.recount_to.new.counts.legs c.self.invariant.counted.told c.exchange_state_at-was.ensures.board (λ leg. refl) c.recount_to.ensures.legs)
     (c.self.invariant.failed ∙ sym (leg_failing_kept c.self.inside.board c.args.place put (λ leg at. refl)) ∙ ap failing_of (sym c.exchange_state_at-was.ensures.board))
-
-pub returns-clause-back : goal.returns-clause-back
-returns-clause-back c =
-    state_back c.self.inside.board c.exchange_state_at-was.new.board c.args.place c.args.to c.exchange_state_at-was.result c.exchange_state_at-was.ensures.board c.exchange_state_at-was.ensures.was
-    ∙ ap (λ (s : Play). s.board) c.self.view_is
