@@ -1,26 +1,24 @@
 -- An event that is taken back.
-use Rattle.std.proofs.Common.{◌≡◌, ◌≢◌, ◌⊎◌, ℕ, inl, inr, ◌≤◌, Bool, true, false, List, [], ◌∷◌, Option, Some, None, Result, Ok, Err, option_map, option_and_then, slice_get, ap, subst, sym, refl, ◌∙◌}
+use Rattle.std.proofs.Common.{◌≡◌, ◌⊎◌, ℕ, inl, inr, ◌≤◌, true, false, List, [], ◌∷◌, Option, Some, None, Result, Ok, Err, option_map, option_and_then, slice_get, ap, subst, sym, refl, ◌∙◌}
 use Rattle.std.specs.Prelude.{IfOk}
 use Rattle.status_table.specs.Words.{Ascends, Board, Content, Event, Held, InPlay, KeptAsShown, Known, Leg, LegState, Member, Plan, Reply, Run, RunState, Standing, answer_of, apart, board_legs, content, done_of, holding, is_known, leg_standing, leg_stands, put_known, run_standing, run_stands, value_at, waiting, without_reply, ◌>>=◌}
 use Rattle.group_admission.proofs.Back.{all_put_back, same_content}
-use Rattle.flat_board.specs.Index.{Follows, FollowsUnasked, EventsKeep}
-use Rattle.flat_board.specs.Names.{IsName, IsNamedIn, NamesKnown, Seen, SeenNamed, group_at, group_of, leg_names, run_names, seen_at}
+use Rattle.flat_board.specs.Index.{Follows, FollowsUnasked}
+use Rattle.flat_board.specs.Names.{IsName, NamesKnown, Seen, SeenNamed, group_at, group_of, leg_names, run_names, seen_at}
 use Rattle.flat_board.specs.Sound.{IsSound}
 use Rattle.flat_board.specs.Undo.{Fits, IsAt, RestoresGroups, board_before, cell_of, groups_put_back, name_put_back}
 use Rattle.flat_board.specs.declared.grouped_board.GroupedBoard.{GroupedBoard}
 use Rattle.flat_board.specs.declared.undo.CellBack.{CellBack}
 use Rattle.flat_board.specs.declared.undo.Undo.{Undo}
 use Rattle.flat_board.proofs.Known.{names_before, names_put_back, stays_in}
+use Rattle.flat_board.proofs.Leaving.{awaited_stands, held_stands}
+use Rattle.flat_board.proofs.Named.{filled}
 use Rattle.flat_board.proofs.Playing.{sound_after}
 use Rattle.status_table.specs.declared.fault.EventFault.{EventFault}
 use Rattle.status_table.proofs.Steps.{standing}
-use Rattle.status_table.proofs.Turnover.{a_holder, a_waiter}
 use Rattle.board_decisions.proofs.Lists.{same_some, no_some}
 
 -- ---- what a board shows is one
-
-filled : (c : ℕ) (cs : List ℕ) → c ∷ cs ≢ []
-filled c cs e = cc
 
 held_same : (x y : Option Held) → option_map (λ (h : Held). h.holder) x ≡ option_map (λ (h : Held). h.holder) y → option_and_then (λ (h : Held). h.waiter) x ≡ option_and_then (λ (h : Held). h.waiter) y → x ≡ y
 held_same None None h w = refl
@@ -45,17 +43,14 @@ stood_for (holding g) = g
 stood_for (waiting g) = g
 
 run_group : (s : RunState) (g : Option (List ℕ)) (name : List ℕ) → stood_for (run_stands s g) ≡ Some name → g ≡ Some name
-run_group RunState.New g name is = absurd (no_some name is)
 run_group RunState.Waiting g name is = is
 run_group RunState.Going g name is = is
-run_group (RunState.Closed result) g name is = absurd (no_some name is)
+run_group state g name is = absurd (no_some name is)
 
 leg_group : (s : LegState) (g : Option (List ℕ)) (name : List ℕ) → stood_for (leg_stands s g) ≡ Some name → g ≡ Some name
 leg_group LegState.Fresh g name is = absurd (no_some name is)
-leg_group LegState.Waiting g name is = is
-leg_group LegState.Admitted g name is = is
-leg_group (LegState.Running worker in_call) g name is = is
 leg_group (LegState.Ended result tolerated) g name is = absurd (no_some name is)
+leg_group state g name is = is
 
 standing_group : (b : Board) (m : Member) (s : Standing) (name : List ℕ) → standing b m ≡ Some s → stood_for s ≡ Some name → group_at b m ≡ Some name
 standing_group b (Member.Run r) s name is stood = by (slice_get b.runs r) is
@@ -71,22 +66,8 @@ standing_group b (Member.Leg l) s name is stood = by (slice_get (board_legs b) l
 
 -- so it is where the groups that a board shows have it there
 at_group : (b : Board) (groups : Content) (m : Member) (name : List ℕ) → KeptAsShown groups b → IsAt m name groups → group_at b m ≡ Some name
-at_group b groups m [] kept (inl e) = absurd (no_some m (sym (ap (option_map (λ (h : Held). h.holder)) kept.named) ∙ e))
-at_group b groups m [] kept (inr e) = absurd (no_some m (sym (ap (option_and_then (λ (h : Held). h.waiter)) kept.named) ∙ e))
-at_group b groups m (c ∷ cs) kept (inl e) =
-    standing_group b m (holding (Some (c ∷ cs))) (c ∷ cs) (a_holder b (c ∷ cs) m (sym (kept.shown.holder (c ∷ cs) (filled c cs)) ∙ e)).0 refl
-at_group b groups m (c ∷ cs) kept (inr e) =
-    standing_group b m (waiting (Some (c ∷ cs))) (c ∷ cs) (a_waiter b (c ∷ cs) m (sym (kept.shown.waiter (c ∷ cs) (filled c cs)) ∙ e)).0 refl
-
--- the name of a group that is seen
-named_group : (known : Known) (s : Seen) (name : List ℕ) → SeenNamed known s → group_of s ≡ Some name → IsName name × (is_known name known ≡ true)
-named_group known None name h is = absurd (no_some name is)
-named_group known (Some s) name h is = by s.0 s.1 h is
-  where
-    by : (n : Bool) (group : Option (List ℕ)) → IsNamedIn known n group → group ≡ Some name → IsName name × (is_known name known ≡ true)
-    by true group h is = absurd (no_some name (sym h ∙ is))
-    by false None h is = absurd (no_some name is)
-    by false (Some other) h is = subst (λ (n : List ℕ). IsName n × (is_known n known ≡ true)) (same_some other name is) h
+at_group b groups m name kept (inl e) = standing_group b m (holding (Some name)) name (held_stands groups b m name kept e) refl
+at_group b groups m name kept (inr e) = standing_group b m (waiting (Some name)) name (awaited_stands groups b m name kept e) refl
 
 -- who is in a group is not new
 in_group : (known : Known) (s : Seen) (name : List ℕ) → SeenNamed known s → group_of s ≡ Some name → s ≡ Some (false, Some name)
@@ -94,12 +75,16 @@ in_group known None name h is = absurd (no_some name is)
 in_group known (Some (true, g)) name h is = absurd (no_some name (sym h ∙ is))
 in_group known (Some (false, g)) name h is = ap (λ (o : Option (List ℕ)). Some (false, o)) is
 
+-- and the name of the group is one, and known
+named_group : (known : Known) (s : Seen) (name : List ℕ) → SeenNamed known s → group_of s ≡ Some name → IsName name × (is_known name known ≡ true)
+named_group known s name h is = subst (SeenNamed known) (in_group known s name h is) h
+
 -- ---- an event
 
-module _ (law : EventsKeep) (old new : GroupedBoard) (worker : ℕ) (e : Event) (few : worker ≤ 15) (sound : IsSound old)
+module _ (old new : GroupedBoard) (worker : ℕ) (e : Event) (few : worker ≤ 15) (sound : IsSound old)
     (reply : Reply) (follows : Follows old new worker e (Ok reply)) where
   now_sound : IsSound new
-  now_sound = sound_after law old new worker e few sound (Ok reply) follows
+  now_sound = sound_after old new worker e few sound (Ok reply) follows
 
   -- the member that asked for a name is in its group after the event
   asked_for : (m : Member) (name : List ℕ) → (group_at old.state.board m ≡ Some name) ⊎ IsAt m name (content new.groups) → group_at new.state.board m ≡ Some name
@@ -131,27 +116,27 @@ module _ (law : EventsKeep) (old new : GroupedBoard) (worker : ℕ) (e : Event) 
   }
 
 -- so it is with each answer
-pub fits_all : EventsKeep → (old new : GroupedBoard) (worker : ℕ) (e : Event) → worker ≤ 15 → IsSound old
+pub fits_all : (old new : GroupedBoard) (worker : ℕ) (e : Event) → worker ≤ 15 → IsSound old
     → (result : Result (Reply × Undo) EventFault) → Follows old new worker e (answer_of result)
     → IfOk result (λ both. board_before both.1 new.state.board ≡ old.state.board)
     → IfOk result (λ both. RestoresGroups (cell_of both.1) old new)
     → IfOk result (λ both. Fits both.1 new.state.plan new.state.board)
-fits_all law old new worker e few sound (Ok both) follows back cell =
-    fits_back law old new worker e few sound both.0 follows both.1 back cell
-fits_all law old new worker e few sound (Err f) follows back cell = tt
+fits_all old new worker e few sound (Ok both) follows back cell =
+    fits_back old new worker e few sound both.0 follows both.1 back cell
+fits_all old new worker e few sound (Err f) follows back cell = tt
 
 -- and with each that came without a reply
-pub fits_unasked : EventsKeep → (old new : GroupedBoard) (worker : ℕ) (e : Event) → worker ≤ 15 → IsSound old
+pub fits_unasked : (old new : GroupedBoard) (worker : ℕ) (e : Event) → worker ≤ 15 → IsSound old
     → (result : Result Undo EventFault) → FollowsUnasked old new worker e (done_of result)
     → IfOk result (λ undo. board_before undo new.state.board ≡ old.state.board)
     → IfOk result (λ undo. RestoresGroups (cell_of undo) old new)
     → IfOk result (λ undo. Fits undo new.state.plan new.state.board)
-fits_unasked law old new worker e few sound (Ok undo) follows back cell = by_answer follows.answer follows.follows follows.same
+fits_unasked old new worker e few sound (Ok undo) follows back cell = by_answer follows.answer follows.follows follows.same
   where
     by_answer : (answer : Result Reply EventFault) → Follows old new worker e answer → Ok tt ≡ without_reply answer → Fits undo new.state.plan new.state.board
-    by_answer (Ok reply) told is = fits_back law old new worker e few sound reply told undo back cell
+    by_answer (Ok reply) told is = fits_back old new worker e few sound reply told undo back cell
     by_answer (Err f) told is = absurd (cc)
-fits_unasked law old new worker e few sound (Err f) follows back cell = tt
+fits_unasked old new worker e few sound (Err f) follows back cell = tt
 
 -- the board before is as sound
 pub sound_before : (old new : GroupedBoard) (undo : Undo) → Ascends old.groups → IsSound old → Fits undo old.state.plan old.state.board

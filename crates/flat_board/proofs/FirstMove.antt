@@ -1,9 +1,8 @@
 -- The first of the clerk's events that are accepted.
 use Rattle.std.proofs.Common.{◌≡◌, ℕ, zero, suc, ◌+◌, ◌-◌, ◌<◌, ◌++◌, Bool, true, false, List, [], ◌∷◌, Some, None, length, map, filter, slice_get, ap, sym, refl, subst, ◌∙◌, arith}
-use Rattle.status_table.specs.Words.{Board, board_jobs, board_legs, clerk_events, events_of, numbers}
+use Rattle.status_table.specs.Words.{Board, board_jobs, board_legs, clerk_events, events_of, numbers, Event}
 use Rattle.status_table.specs.declared.moves.MoveKind.{MoveKind}
-use Rattle.status_table.proofs.Accepting.{step}
-use Rattle.flat_board.proofs.Accepting.{one_more, none_more}
+use Rattle.status_table.proofs.Accepting.{in_order, none_more, one_more, step}
 
 -- what is first stays so whatever comes after it
 pub first_stays : {A : Type 0} (xs ys : List A) (x : A) → Some x ≡ slice_get xs 0 → Some x ≡ slice_get (xs ++ ys) 0
@@ -37,13 +36,13 @@ first_there t f n count below none holds =
     let e : (count - (n + 1)) + (n + 1) ≡ count = omega (arith, below) in
     subst (λ (c : ℕ). Some (f n) ≡ slice_get (filter t (map f (numbers c))) 0) e (of_more t f n (count - (n + 1)) none holds)
 
--- The clerk's events by their kinds, where the counts are those of a board.
-pub as_counted : (b : Board) (n j l : ℕ) → n ≡ length b.runs → j ≡ length (board_jobs b) → l ≡ length (board_legs b)
-    → events_of MoveKind.Close n ++ (events_of MoveKind.Open n ++ (events_of MoveKind.Judge j ++ (events_of MoveKind.Drop l ++ events_of MoveKind.Ask l))) ≡ clerk_events b
-as_counted b n j l n_is j_is l_is =
-    ap (λ m. events_of MoveKind.Close m ++ (events_of MoveKind.Open m ++ (events_of MoveKind.Judge j ++ (events_of MoveKind.Drop l ++ events_of MoveKind.Ask l)))) n_is
-    ∙ ap (λ m. events_of MoveKind.Close (length b.runs) ++ (events_of MoveKind.Open (length b.runs) ++ (events_of MoveKind.Judge m ++ (events_of MoveKind.Drop l ++ events_of MoveKind.Ask l)))) j_is
-    ∙ ap (λ m. events_of MoveKind.Close (length b.runs) ++ (events_of MoveKind.Open (length b.runs) ++ (events_of MoveKind.Judge (length (board_jobs b)) ++ (events_of MoveKind.Drop m ++ events_of MoveKind.Ask m)))) l_is
+-- The clerk's events that are accepted, kind by kind, where the counts are those of a board.
+pub kind_by_kind : (t : Event → Bool) (b : Board) (n j l : ℕ) → n ≡ length b.runs → j ≡ length (board_jobs b) → l ≡ length (board_legs b)
+    → (((filter t (events_of MoveKind.Close n) ++ filter t (events_of MoveKind.Open n)) ++ filter t (events_of MoveKind.Judge j)) ++ filter t (events_of MoveKind.Drop l)) ++ filter t (events_of MoveKind.Ask l)
+    ≡ filter t (clerk_events b)
+kind_by_kind t b n j l n_is j_is l_is =
+    in_order t (events_of MoveKind.Close n) (events_of MoveKind.Open n) (events_of MoveKind.Judge j) (events_of MoveKind.Drop l) (events_of MoveKind.Ask l)
+    ∙ ap (filter t) (λ i. events_of MoveKind.Close (n_is i) ++ (events_of MoveKind.Open (n_is i) ++ (events_of MoveKind.Judge (j_is i) ++ (events_of MoveKind.Drop (l_is i) ++ events_of MoveKind.Ask (l_is i)))))
 
 -- and none where some more are refused
 pub none_through : {A : Type 0} (t : A → Bool) (f : ℕ → A) (n d : ℕ) → filter t (map f (numbers n)) ≡ [] → ((i : ℕ) → i < d → t (f (n + i)) ≡ false)

@@ -83,20 +83,13 @@ module _ (p : Plan) (b : Board) (worker : ℕ) (groups after : Known) (keeps : K
       let held : content after ≡ after_enter g.name (Member.Run r) None (content groups) =
       is ∙ ap (λ (o : Option RunAt). run_opened (content groups) r o) enters.1 ∙ ap (λ (x : Result (Option Entrance) ValueFault). opened (content groups) r x) enters.2 in
       (named, entered_known g.name (Member.Run r) None (content groups) after named.some held)
-  named_comes (Event.Judge j) is (Some g) enters = absurd enters
   named_comes (Event.Ask l) is (Some g) enters = λ s new h.
       let at = enters.0 in
       let named : IsName g.name = subst AsksNamed enters.2 (leg_asks at) in
       let held : content after ≡ after_enter g.name (Member.Leg l) (Some at.place.run) (content groups) =
       is ∙ ap (λ (o : Option LegAt). leg_asked (content groups) l o) enters.1 ∙ ap (λ (x : Result (Option Entrance) ValueFault). asked (content groups) l at.place.run x) enters.2 in
       (named, entered_known g.name (Member.Leg l) (Some at.place.run) (content groups) after named.some held)
-  named_comes (Event.Drop l) is (Some g) enters = absurd enters
-  named_comes (Event.Take l) is (Some g) enters = absurd enters
-  named_comes (Event.Begin l) is (Some g) enters = absurd enters
-  named_comes (Event.End l a) is (Some g) enters = absurd enters
-  named_comes (Event.Finish l) is (Some g) enters = absurd enters
-  named_comes (Event.Close r) is (Some g) enters = absurd enters
-  named_comes (Event.Cancel r) is (Some g) enters = absurd enters
+  named_comes e is (Some g) enters = absurd enters
 
   -- the names that stand on the board after an event are known
   pub names_after : (e : Event) (x : Board × Reply) → content after ≡ after_event p b (content groups) e → event_row p b worker e ≡ Ok x → NamesKnown after x.0

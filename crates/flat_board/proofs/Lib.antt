@@ -1,8 +1,7 @@
-pub mod Accepting
 pub mod Back
 pub mod FirstMove
+pub mod GroupLaws
 pub mod Index
-pub mod Kept
 pub mod Known
 pub mod Leaving
 pub mod Named

@@ -1,20 +1,20 @@
 -- The names of groups that are entered.
-use Rattle.std.proofs.Common.{◌≡◌, ℕ, Bool, List, [], ◌∷◌, Option, Some, None, Result, Ok, Err, subst}
+use Rattle.std.proofs.Common.{◌≡◌, ℕ, Bool, List, [], ◌∷◌, Option, Some, None, Result, Ok, Err, subst, ◌≢◌}
 use Rattle.std.proofs.lemmas.Str.Ascii.{lowercase-lowercase}
 use Rattle.std.specs.Char.{to_ascii_lowercase}
 use Rattle.status_table.specs.Words.{Contexts, Entrance, Gives, Group, LegAt, RunAt, TextPlace, ValueFault, contexts_at, entrance, entrance_value, flag_value, fold, leg_entrance, run_entrance, run_values, seen_from, text_text, then_value, with_env}
 use Rattle.flat_board.specs.Index.{EntersNamed, AsksNamed}
 use Rattle.board_counters.proofs.Lists.{map-twice}
 
+pub filled : (c : ℕ) (cs : List ℕ) → c ∷ cs ≢ []
+filled c cs e = cc
+
 fold-fold : (text : List ℕ) → fold (fold text) ≡ fold text
 fold-fold text = map-twice to_ascii_lowercase to_ascii_lowercase to_ascii_lowercase text lowercase-lowercase
 
 entrance_named : (name : List ℕ) (cancel : Bool) → fold name ≡ name → EntersNamed (entrance name cancel)
 entrance_named [] cancel same = tt
-entrance_named (c ∷ cs) cancel same = record { folded = same; some = λ e. filled e }
-  where
-    filled : c ∷ cs ≡ [] → ⊥
-    filled e = cc
+entrance_named (c ∷ cs) cancel same = record { folded = same; some = filled c cs }
 
 entered_named : (c : Contexts) (group : Group) (x : Result (List ℕ) ValueFault) → AsksNamed (then_value x (λ name. Ok (entrance (fold name) (flag_value c group.cancel))))
 entered_named c group (Ok name) = entrance_named (fold name) (flag_value c group.cancel) (fold-fold name)

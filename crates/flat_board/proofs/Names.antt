@@ -1,10 +1,10 @@
 -- What is seen of the members of a board after an event.
 use Rattle.std.proofs.Common.{◌≡◌, ℕ, zero, suc, ◌&&◌, ◌||◌, ◌==◌, ◌++◌, Bool, true, false, not, List, [], ◌∷◌, Option, Some, None, Result, Ok, Err, slice_get, nat_lt, length, option_and_then, if◌then◌else◌, ap, subst, sym, refl, ◌∙◌}
 use Rattle.std.specs.List.{flat_map}
-use Rattle.std.proofs.lemmas.Bool.{true≢false}
 use Rattle.status_table.specs.Words.{Answer, Beginning, Board, DoneStep, Entrance, Event, Job, JobAt, JobPlace, JobState, Leg, LegAt, LegPlace, LegState, Member, Outcome, Plan, Row, Run, RunAt, RunState, Standing, ValueFault, admitted, ask_found, begin_found, begin_leg, beginning, board_legs, calls, cancel_found, cancelled, changed, close_found, close_run, close_waiting, closed, displaced, drop_found, dropped, end_found, end_leg, ended_state, ending, enters, enters_held, event_row, failed_step, faults, finish_found, finish_leg, finishing_by, holder, idle_owner, is_closed, is_fresh, is_full, is_going, is_open, is_own, is_stopping, job_at, job_state_set, jobs_have_ended, judge_found, judge_job, judgement, leaves, leg_at, leg_changed, leg_ended, leg_enters, leg_entrance, leg_outputs, leg_place, leg_result, leg_standing, leg_state_set, leg_there, may_ask, may_drop, moved, next_after, open_found, open_run, passed_on, queued, run_at, run_closes, run_enters, run_entrance, run_result, run_standing, skipped_step, skips, step_done, stopped, take_found, take_leg, waiter, waits, with_leg, with_numbered_leg, with_run, ◌>>=◌}
 use Rattle.flat_board.specs.Names.{Seen, group_at, group_of, is_new, leg_names, run_names, seen_at}
 use Rattle.status_table.specs.declared.fault.EventFault.{EventFault}
+use Rattle.board_decisions.proofs.Lists.{and-right}
 use Rattle.status_table.proofs.Decided.{by_test}
 use Rattle.status_table.proofs.Found.{leg_item, leg_stands, run_stands}
 use Rattle.status_table.proofs.Lists.{changed-cons, flat_map-kept, flat_map-twice}
@@ -79,24 +79,12 @@ group_name (Some group) = Some group.name
 -- whom an event lets enter a group
 abbrev pub Enters : Plan → Board → Event → Option Entrance → Type 0
 Enters p b (Event.Open r) group = (at : RunAt) × (run_at p b r ≡ Some at) × (run_entrance at ≡ Ok group)
-Enters p b (Event.Judge j) group = ⊥
 Enters p b (Event.Ask l) group = (at : LegAt) × (leg_at p b l ≡ Some at) × (leg_entrance at ≡ Ok group)
-Enters p b (Event.Drop l) group = ⊥
-Enters p b (Event.Take l) group = ⊥
-Enters p b (Event.Begin l) group = ⊥
-Enters p b (Event.End l a) group = ⊥
-Enters p b (Event.Finish l) group = ⊥
-Enters p b (Event.Close r) group = ⊥
-Enters p b (Event.Cancel r) group = ⊥
+Enters p b e group = ⊥
 
 -- how one that is new comes into a group
 abbrev pub Comes : (Seen → Type 0) → Option Entrance → Type 0
 Comes P group = (s : Seen) → flag_of s ≡ true → P s → P (Some (false, group_name group))
-
-fresh_of : (a b c : Bool) → (a && b && c) ≡ true → c ≡ true
-fresh_of true true c h = h
-fresh_of true false c h = absurd (true≢false (sym h))
-fresh_of false b c h = absurd (true≢false (sym h))
 
 -- who is seen where a run is found, or a leg
 pub seen_run : (p : Plan) (b : Board) (r : ℕ) (at : RunAt) → run_at p b r ≡ Some at → seen_at b (Member.Run r) ≡ run_names at.run
@@ -197,10 +185,7 @@ module _ (P : Seen → Type 0) (older : (new : Bool) (group : Option (List ℕ))
 
       found : (at : RunAt) → run_at p b r ≡ Some at → (state : RunState) (stop : Bool) → at.run.state ≡ state → ThenSeen P m (open_run b r at state stop)
       found at is RunState.New false new = entered at is new (run_entrance at) refl
-      found at is RunState.New true new = tt
-      found at is RunState.Waiting stop new = tt
-      found at is RunState.Going stop new = tt
-      found at is (RunState.Closed result) stop new = tt
+      found at is state stop new = tt
 
       by : (o : Option RunAt) → run_at p b r ≡ o → ThenSeen P m (open_found b r o)
       by None is = tt
@@ -219,7 +204,7 @@ module _ (P : Seen → Type 0) (older : (new : Bool) (group : Option (List ℕ))
     where
       entered : (at : LegAt) → leg_at p b l ≡ Some at → may_ask at ≡ true → (x : Result (Option Entrance) ValueFault) → leg_entrance at ≡ x → ThenSeen P m (leg_enters b l at x)
       entered at is may (Ok group) value =
-          enters_step P older m b (Member.Leg l) (ap flag_of (seen_leg p b l at is) ∙ fresh_of (is_going at.run.state) (is_open at.job.state) (is_fresh at.leg.state) may)
+          enters_step P older m b (Member.Leg l) (ap flag_of (seen_leg p b l at is) ∙ and-right (is_going at.run.state && is_open at.job.state) (is_fresh at.leg.state) may)
           (Some at.place.run) group (comes group (at, is, value)) s
       entered at is may (Err f) value = dropped_step P older m b l Outcome.Failure s
 
@@ -246,13 +231,10 @@ module _ (P : Seen → Type 0) (older : (new : Bool) (group : Option (List ℕ))
   taken l (Some at) is = by at.leg.state
     where
       by : (state : LegState) → ThenSeen P m (take_leg b worker at state)
-      by LegState.Fresh = tt
-      by LegState.Waiting = tt
       by LegState.Admitted =
           by_test (ThenSeen P m) (is_stopping at) (Err EventFault.Stopping) (Ok (leg_state_set b at.place (LegState.Running worker false), moved)) tt
           (state_set l at is (LegState.Running worker false) refl)
-      by (LegState.Running other in_call) = tt
-      by (LegState.Ended result tolerated) = tt
+      by state = tt
 
   begun : (l : ℕ) (o : Option LegAt) → leg_at p b l ≡ o → ThenSeen P m (begin_found b worker l o)
   begun l None is = tt
@@ -284,10 +266,9 @@ module _ (P : Seen → Type 0) (older : (new : Bool) (group : Option (List ℕ))
       waiting_or false = tt
 
       by : (state : RunState) → ThenSeen P m (close_run b r at.run state)
-      by RunState.New = waiting_or at.run.stop
-      by RunState.Waiting = waiting_or at.run.stop
       by RunState.Going = by_test (ThenSeen P m) (jobs_have_ended at.run) (run_closes b r at.run (run_result at.run)) (Err EventFault.NeedsOpen) (closes (run_result at.run)) tt
       by (RunState.Closed result) = tt
+      by state = waiting_or at.run.stop
 
   cancelling : (r : ℕ) (o : Option RunAt) → ThenSeen P m (cancel_found b r o)
   cancelling r None = tt
@@ -299,11 +280,10 @@ module _ (P : Seen → Type 0) (older : (new : Bool) (group : Option (List ℕ))
   finished l (Some at) is = by (idle_owner at.leg.state)
     where
       ends : (other left : Bool) → ThenSeen P m (finish_leg b l at (if other then Err EventFault.OtherWorker else (if left then Err EventFault.StepsLeft else Ok (ended_state at (leg_result at)))))
-      ends true left = tt
-      ends false true = tt
       ends false false = leaves_step P older m b (leg_standing at.leg) (leg_ended b at.place l (ended_state at (leg_result at)) (leg_outputs at))
           (placed_step P m b l at.place (λ leg. record leg { state = ended_state at (leg_result at); outputs = leg_outputs at }) (leg_stands p b l at is).place
           (λ leg found. older (is_fresh leg.state) leg.group) s)
+      ends other left = tt
 
       by : (o : Option ℕ) → ThenSeen P m (finish_leg b l at (finishing_by worker at o))
       by None = tt

@@ -1,115 +1,85 @@
 -- A clerk's events that are refused to all jobs or legs of a run.
-use Rattle.std.proofs.Common.{◌≡◌, ℕ, zero, suc, ◌+◌, ◌<◌, ◌≤◌, ◌==◌, ◌&&◌, ◌||◌, Bool, true, false, not, List, [], ◌∷◌, Option, Some, None, length, slice_get, count_by, sum_by, nat_lt, ap, sym, refl, ◌∙◌, arith}
+use Rattle.std.proofs.Common.{◌≡◌, ℕ, ◌+◌, ◌<◌, ◌≤◌, ◌==◌, ◌&&◌, ◌||◌, Bool, true, false, not, List, Option, Some, None, length, slice_get, count_by, sum_by, nat_lt, ap, sym, refl, ◌∙◌, arith}
 use Rattle.std.specs.List.{list_any}
-use Rattle.std.proofs.lemmas.Bool.{true≢false}
+use Rattle.std.proofs.lemmas.Bool.{true≢false, false_from_ne_true}
 use Rattle.std.proofs.lemmas.Bool.Decides.{nat_tests}
-use Rattle.std.proofs.lemmas.List.Sums.{sum_by-cons}
-use Rattle.status_table.specs.Words.{Board, Event, Job, JobAt, JobPlace, JobState, Leg, LegAt, LegPlace, LegState, Plan, Run, RunState, accepts, ask_found, drop_found, event_of, has_failed, is_accepted, is_ended, is_fresh, is_going, is_open, is_stopping, is_under_way as takes_slot, is_untaken, job_at, job_place, judge_found, judge_job, judgement_by, leg_at, leg_place, may_ask, may_drop, stops_anyway}
-use Rattle.board_decisions.proofs.Lists.{and-both, and-left, and-right, same_some, no_some}
+use Rattle.std.proofs.lemmas.List.Sums.{get_or-le-sum_by, sum_by-le-sum_by}
+use Rattle.std.proofs.lemmas.Option.{get_or_from_slice_get, slice_get_within}
+use Rattle.status_table.specs.Words.{Board, Event, Job, JobAt, JobPlace, JobState, Leg, LegAt, LegPlace, LegState, Plan, Run, RunState, accepts, ask_found, drop_found, event_of, has_failed, is_accepted, is_ended, is_fresh, is_going, is_open, is_stopping, is_under_way as takes_slot, is_untaken, job_at, job_place, judge_found, judge_job, judgement_by, leg_at, leg_place, may_ask, may_drop, stops_anyway, Outcome, Row, changed}
+use Rattle.board_decisions.proofs.Lists.{and-both, and-left, and-right, same_some}
 use Rattle.flat_board.specs.Idle.{is_all_judged, is_none_stopping, is_run_idle}
 use Rattle.flat_board.proofs.RunNumbers.{job_further, leg_further}
 use Rattle.board_counters.specs.Counters.{tally_of}
 use Rattle.board_counters.specs.Standing.{is_unjudged, run_tally, standing_of}
 use Rattle.board_counters.specs.Stopping.{legs_of_jobs, run_legs, told_of}
-use Rattle.board_counters.proofs.Lists.{any-counted}
+use Rattle.board_counters.proofs.Lists.{any_counted}
 use Rattle.status_table.specs.declared.moves.MoveKind.{MoveKind}
-use Rattle.status_table.proofs.Counts.{counted, one}
-use Rattle.status_table.proofs.Found.{job_stands, leg_stands}
+use Rattle.status_table.proofs.Counts.{counted, one, sum-changed}
+use Rattle.status_table.proofs.Found.{LegStands, job_stands, leg_stands}
 
 -- ---- what the tally of a job says of each of its legs
 
 at-most : (state : LegState) → one (takes_slot state) ≤ one (not (is_ended state))
 at-most LegState.Fresh = omega arith
-at-most LegState.Waiting = omega arith
-at-most LegState.Admitted = omega arith
-at-most (LegState.Running worker in_call) = omega arith
-at-most (LegState.Ended result tolerated) = omega arith
+at-most state = omega arith
 
 less : (state : LegState) → is_fresh state ≡ true → one (takes_slot state) < one (not (is_ended state))
 less LegState.Fresh fresh = omega arith
-less LegState.Waiting fresh = absurd (true≢false (sym fresh))
-less LegState.Admitted fresh = absurd (true≢false (sym fresh))
-less (LegState.Running worker in_call) fresh = absurd (true≢false (sym fresh))
-less (LegState.Ended result tolerated) fresh = absurd (true≢false (sym fresh))
+less state fresh = absurd (true≢false (sym fresh))
 
-module _ where
-  abbrev slots : List Leg → ℕ
-  slots legs = count_by (λ (leg : Leg). takes_slot leg.state) legs
+-- fewer take a slot than are not Ended, where one is Fresh: if that ended, there would be no more of them
+fresh-left : (legs : List Leg) (i : ℕ) (leg : Leg) → slice_get legs i ≡ Some leg → is_fresh leg.state ≡ true
+    → count_by (λ (x : Leg). takes_slot x.state) legs < count_by (λ (x : Leg). not (is_ended x.state)) legs
+fresh-left legs i leg at fresh =
+    let end : Leg → Leg = λ x. record x { state = LegState.Ended Outcome.Success false } in
+    let slots = sum-changed (λ (x : Leg). one (takes_slot x.state)) legs i end leg at in
+    let left = sum-changed (λ (x : Leg). one (not (is_ended x.state))) legs i end leg at in
+    let most = sum_by-le-sum_by (λ (x : Leg). one (takes_slot x.state)) (λ (x : Leg). one (not (is_ended x.state))) (changed legs i end) (λ x. at-most x.state) in
+    let here = less leg.state fresh in
+    omega (arith, slots, left, most, here)
 
-  abbrev left : List Leg → ℕ
-  left legs = count_by (λ (leg : Leg). not (is_ended leg.state)) legs
-
-  slots-left : (legs : List Leg) → slots legs ≤ left legs
-  slots-left [] = omega arith
-  slots-left (x ∷ xs) =
-      let a = sum_by-cons (λ (leg : Leg). one (takes_slot leg.state)) x xs in
-      let b = sum_by-cons (λ (leg : Leg). one (not (is_ended leg.state))) x xs in
-      let here = at-most x.state in
-      let later = slots-left xs in
-      omega (arith, a, b, here, later)
-
-  fresh-left : (legs : List Leg) (i : ℕ) (leg : Leg) → slice_get legs i ≡ Some leg → is_fresh leg.state ≡ true → slots legs < left legs
-  fresh-left [] i leg at fresh = absurd (no_some leg at)
-  fresh-left (x ∷ xs) zero leg at fresh =
-      let a = sum_by-cons (λ (y : Leg). one (takes_slot y.state)) x xs in
-      let b = sum_by-cons (λ (y : Leg). one (not (is_ended y.state))) x xs in
-      let here = less x.state (ap (λ (y : Leg). is_fresh y.state) (same_some x leg at) ∙ fresh) in
-      let later = slots-left xs in
-      omega (arith, a, b, here, later)
-  fresh-left (x ∷ xs) (suc i) leg at fresh =
-      let a = sum_by-cons (λ (y : Leg). one (takes_slot y.state)) x xs in
-      let b = sum_by-cons (λ (y : Leg). one (not (is_ended y.state))) x xs in
-      let here = at-most x.state in
-      let later = fresh-left xs i leg at fresh in
-      omega (arith, a, b, here, later)
-
-untaken-one : (state : LegState) → is_untaken state ≡ true → one (not (is_ended state)) ≡ 1
-untaken-one LegState.Fresh h = refl
-untaken-one LegState.Waiting h = refl
-untaken-one LegState.Admitted h = refl
-untaken-one (LegState.Running worker in_call) h = absurd (true≢false (sym h))
-untaken-one (LegState.Ended result tolerated) h = absurd (true≢false (sym h))
-
-untaken-left : (legs : List Leg) (i : ℕ) (leg : Leg) → slice_get legs i ≡ Some leg → is_untaken leg.state ≡ true → 0 < left legs
-untaken-left [] i leg at h = absurd (no_some leg at)
-untaken-left (x ∷ xs) zero leg at h =
-    let b = sum_by-cons (λ (y : Leg). one (not (is_ended y.state))) x xs in
-    let here = untaken-one x.state (ap (λ (y : Leg). is_untaken y.state) (same_some x leg at) ∙ h) in
-    omega (arith, b, here)
-untaken-left (x ∷ xs) (suc i) leg at h =
-    let b = sum_by-cons (λ (y : Leg). one (not (is_ended y.state))) x xs in
-    let later = untaken-left xs i leg at h in
-    omega (arith, b, later)
+untaken-unended : (state : LegState) → is_untaken state ≡ true → not (is_ended state) ≡ true
+untaken-unended (LegState.Ended result tolerated) h = h
+untaken-unended state h = refl
 
 -- ---- counts
 
--- none is counted where the count is 0
-none-counted : {A : Type 0} (t : A → Bool) (xs : List A) (i : ℕ) (x : A) → slice_get xs i ≡ Some x → (count_by t xs == 0) ≡ true → t x ≡ false
-none-counted t xs i x at none = by (t x) refl
-  where
-    by : (c : Bool) → t x ≡ c → t x ≡ false
-    by false is = is
-    by true is =
-        let some = counted t xs i x at is in
-        let zero_is : count_by t xs ≡ 0 = grind (arith, nat_tests, none) in
-        absurd (omega (arith, some, zero_is))
-
--- and so is none in any of several lists where their sum is 0
+-- nothing is in any of several lists where their sum is 0
 none-in : {A : Type 0} (w : A → ℕ) (xs : List A) (i : ℕ) (x : A) → slice_get xs i ≡ Some x → sum_by w xs ≡ 0 → w x ≡ 0
-none-in w [] i x at none = absurd (no_some x at)
-none-in w (y ∷ ys) zero x at none =
-    let cons = sum_by-cons w y ys in let same = ap w (same_some y x at) in omega (arith, cons, same, none)
-none-in w (y ∷ ys) (suc i) x at none =
-    let cons = sum_by-cons w y ys in none-in w ys i x at (omega (arith, cons, none))
+none-in w xs i x at none =
+    let most = get_or-le-sum_by w xs i x (slice_get_within xs i x at) in
+    let here = ap w (get_or_from_slice_get xs i x x at) in
+    omega (arith, most, here, none)
+
+-- and none is counted where the count is 0
+none-counted : {A : Type 0} (t : A → Bool) (xs : List A) (i : ℕ) (x : A) → slice_get xs i ≡ Some x → (count_by t xs == 0) ≡ true → t x ≡ false
+none-counted t xs i x at none = false_from_ne_true (t x) (λ is.
+    let some = counted t xs i x at is in
+    let zero_is : count_by t xs ≡ 0 = grind (arith, nat_tests, none) in
+    omega (arith, some, zero_is))
 
 -- one of two that do not both fail
 else-holds : (a b : Bool) → (not a || b) ≡ true → a ≡ true → b ≡ true
-else-holds true b h a_is = h
-else-holds false b h a_is = absurd (true≢false (sym a_is))
+else-holds a b h a_is = ap (λ c. not c || b) (sym a_is) ∙ h
 
 -- neither one nor both of two others hold
 neither : (a b c : Bool) → a ≡ false → b ≡ false → (a || (b && c)) ≡ false
 neither a b c a_is b_is = λ i. a_is i || (b_is i && c)
+
+-- a leg whose run is Going and whose job is Open
+record Ready (at : LegAt) (own : Bool) : Type 0 where
+  going : is_going at.run.state ≡ true
+  opened : is_open at.job.state ≡ true
+  own_is : own ≡ true
+
+ready : (at : LegAt) (own : Bool) → is_going at.run.state && is_open at.job.state && own ≡ true → Ready at own
+ready at own may =
+    let way = and-left (is_going at.run.state && is_open at.job.state) own may in
+    record {
+      going = and-left (is_going at.run.state) (is_open at.job.state) way;
+      opened = and-right (is_going at.run.state) (is_open at.job.state) way;
+      own_is = and-right (is_going at.run.state && is_open at.job.state) own may;
+    }
 
 -- ---- a job of a run no job of which may be judged
 
@@ -122,11 +92,7 @@ judge-refused b n at there judged = by at.run.state at.job.state refl refl
 
     by : (r : RunState) (j : JobState) → at.run.state ≡ r → at.job.state ≡ j → is_accepted (judge_job b at.place (judgement_by n at r j)) ≡ false
     by RunState.Going JobState.Unjudged r j = absurd (true≢false (sym (ap is_unjudged j) ∙ unjudged-none (ap is_going r)))
-    by RunState.Going JobState.Open r j = refl
-    by RunState.Going (JobState.Shut how) r j = refl
-    by RunState.New j r is = refl
-    by RunState.Waiting j r is = refl
-    by (RunState.Closed how) j r is = refl
+    by run job r j = refl
 
 -- the jobs of such a run, from its first on
 pub idle_jobs : (p : Plan) (b : Board) (n : ℕ) (at : JobPlace) (run : Run) → job_place b n ≡ Some at → slice_get b.runs at.run ≡ Some run → at.job ≡ 0 → is_all_judged run ≡ true
@@ -151,15 +117,12 @@ ask-refused b l at in_run in_job idle = by (may_ask at) refl
     by : (c : Bool) → may_ask at ≡ c → is_accepted (ask_found b l (Some at)) ≡ false
     by false may = rw may refl
     by true may =
-        let way = and-left (is_going at.run.state && is_open at.job.state) (is_fresh at.leg.state) may in
-        let fresh = and-right (is_going at.run.state && is_open at.job.state) (is_fresh at.leg.state) may in
-        let going = and-left (is_going at.run.state) (is_open at.job.state) way in
-        let open_is = and-right (is_going at.run.state) (is_open at.job.state) way in
-        let few = fresh-left at.job.legs at.place.leg at.leg in_job fresh in
+        let is = ready at (is_fresh at.leg.state) may in
+        let few = fresh-left at.job.legs at.place.leg at.leg in_job is.own_is in
         let left : nat_lt (tally_of at.job).used (tally_of at.job).pending ≡ true = grind (arith, nat_tests, few) in
         let none = none-counted (λ (job : Job). (standing_of job).may_ask) at.run.jobs at.place.job at.job in_run
-        (else-holds (is_going at.run.state) ((run_tally at.run).asking == 0) idle going) in
-        absurd (true≢false (sym (and-both (is_open at.job.state) (nat_lt (tally_of at.job).used (tally_of at.job).pending) open_is left) ∙ none))
+        (else-holds (is_going at.run.state) ((run_tally at.run).asking == 0) idle is.going) in
+        absurd (true≢false (sym (and-both (is_open at.job.state) (nat_lt (tally_of at.job).used (tally_of at.job).pending) is.opened left) ∙ none))
 
 -- whether a leg stops whatever its job's condition, of a job none of whose legs is told to, and none has failed
 anyway-false : (at : LegAt) → at.leg.stop ≡ false → list_any (λ leg. has_failed leg.state) at.job.legs ≡ false → stops_anyway at ≡ false
@@ -180,32 +143,25 @@ drop-refused b l at in_run in_job idle = by (may_drop at) refl
         none-counted (λ (leg : Leg). leg.stop) at.job.legs at.place.leg at.leg in_job zero_is
 
     failed-none : is_open at.job.state ≡ true → is_untaken at.leg.state ≡ true → ((run_tally at.run).dropping == 0) ≡ true → list_any (λ (leg : Leg). has_failed leg.state) at.job.legs ≡ false
-    failed-none open_is untaken dropping = either (list_any (λ (leg : Leg). has_failed leg.state) at.job.legs) refl
-      where
-        either : (c : Bool) → list_any (λ (leg : Leg). has_failed leg.state) at.job.legs ≡ c → list_any (λ (leg : Leg). has_failed leg.state) at.job.legs ≡ false
-        either false is = is
-        either true is =
-            let some = untaken-left at.job.legs at.place.leg at.leg in_job untaken in
-            let left : nat_lt 0 (tally_of at.job).pending ≡ true = grind (arith, nat_tests, some) in
-            let failed : nat_lt 0 (tally_of at.job).failed ≡ true = sym (any-counted (λ (leg : Leg). has_failed leg.state) at.job.legs) ∙ is in
-            let none = none-counted (λ (job : Job). (standing_of job).may_drop) at.run.jobs at.place.job at.job in_run dropping in
-            let both = and-both (nat_lt 0 (tally_of at.job).failed) (nat_lt 0 (tally_of at.job).pending) failed left in
-            absurd (true≢false (sym (and-both (is_open at.job.state) (nat_lt 0 (tally_of at.job).failed && nat_lt 0 (tally_of at.job).pending) open_is both) ∙ none))
+    failed-none open_is untaken dropping = false_from_ne_true (list_any (λ (leg : Leg). has_failed leg.state) at.job.legs) (λ is.
+        let some = counted (λ (leg : Leg). not (is_ended leg.state)) at.job.legs at.place.leg at.leg in_job (untaken-unended at.leg.state untaken) in
+        let left : nat_lt 0 (tally_of at.job).pending ≡ true = grind (arith, nat_tests, some) in
+        let failed : nat_lt 0 (tally_of at.job).failed ≡ true = sym (any_counted (λ (leg : Leg). has_failed leg.state) at.job.legs) ∙ is in
+        let none = none-counted (λ (job : Job). (standing_of job).may_drop) at.run.jobs at.place.job at.job in_run dropping in
+        let both = and-both (nat_lt 0 (tally_of at.job).failed) (nat_lt 0 (tally_of at.job).pending) failed left in
+        true≢false (sym (and-both (is_open at.job.state) (nat_lt 0 (tally_of at.job).failed && nat_lt 0 (tally_of at.job).pending) open_is both) ∙ none))
 
     by : (c : Bool) → may_drop at ≡ c → is_accepted (drop_found b l (Some at)) ≡ false
     by false may = rw may refl
     by true may =
-        let way = and-left (is_going at.run.state && is_open at.job.state) (is_untaken at.leg.state) may in
-        let untaken = and-right (is_going at.run.state && is_open at.job.state) (is_untaken at.leg.state) may in
-        let going = and-left (is_going at.run.state) (is_open at.job.state) way in
-        let open_is = and-right (is_going at.run.state) (is_open at.job.state) way in
-        let none = else-holds (is_going at.run.state) (is_none_stopping at.run) idle going in
+        let is = ready at (is_untaken at.leg.state) may in
+        let none = else-holds (is_going at.run.state) (is_none_stopping at.run) idle is.going in
         let rest = and-right (not at.run.stop) (((run_legs at.run).told == 0) && ((run_tally at.run).dropping == 0)) none in
         let untold_is = and-left ((run_legs at.run).told == 0) ((run_tally at.run).dropping == 0) rest in
         let untold : (run_legs at.run).told ≡ 0 = grind (arith, nat_tests, untold_is) in
         let dropping = and-right ((run_legs at.run).told == 0) ((run_tally at.run).dropping == 0) rest in
         let stop = not-false at.run.stop (and-left (not at.run.stop) (((run_legs at.run).told == 0) && ((run_tally at.run).dropping == 0)) none) in
-        let anyway = anyway-false at (told-none untold) (failed-none open_is untaken dropping) in
+        let anyway = anyway-false at (told-none untold) (failed-none is.opened is.own_is dropping) in
         let stays : is_stopping at ≡ false = neither (stops_anyway at) at.run.stop _ anyway stop in
         rw (may, stays) refl
       where
@@ -223,26 +179,19 @@ module _ (p : Plan) (b : Board) (n i : ℕ) (at : LegPlace) (run : Run) (is : le
       let place = leg_further b n i at other.place run is job leg there within stands.place in
       same_some run other.run (sym there ∙ ap (slice_get b.runs) place ∙ stands.in_board)
 
-  refused : (k : MoveKind) → is_run_idle k run ≡ true → accepts p b (event_of k (n + i)) ≡ false
-  refused MoveKind.Close idle = absurd (true≢false (sym idle))
-  refused MoveKind.Open idle = absurd (true≢false (sym idle))
-  refused MoveKind.Judge idle = absurd (true≢false (sym idle))
-  refused MoveKind.Drop idle = by (leg_at p b (n + i)) refl
+  -- what is refused to each leg of the run is refused to the one of this number
+  found-refused : (row : Option LegAt → Row) → is_accepted (row None) ≡ false
+      → ((other : LegAt) → LegStands p b (n + i) other → run ≡ other.run → is_accepted (row (Some other)) ≡ false) → is_accepted (row (leg_at p b (n + i))) ≡ false
+  found-refused row none one = by (leg_at p b (n + i)) refl
     where
-      by : (o : Option LegAt) → leg_at p b (n + i) ≡ o → is_accepted (drop_found b (n + i) o) ≡ false
-      by None found = refl
-      by (Some other) found =
-          let stands = leg_stands p b (n + i) other found in
-          drop-refused b (n + i) other stands.job stands.leg (ap (is_run_idle MoveKind.Drop) (sym (same-run other found)) ∙ idle)
-  refused MoveKind.Ask idle = by (leg_at p b (n + i)) refl
-    where
-      by : (o : Option LegAt) → leg_at p b (n + i) ≡ o → is_accepted (ask_found b (n + i) o) ≡ false
-      by None found = refl
-      by (Some other) found =
-          let stands = leg_stands p b (n + i) other found in
-          ask-refused b (n + i) other stands.job stands.leg (ap (is_run_idle MoveKind.Ask) (sym (same-run other found)) ∙ idle)
+      by : (o : Option LegAt) → leg_at p b (n + i) ≡ o → is_accepted (row o) ≡ false
+      by None found = none
+      by (Some other) found = one other (leg_stands p b (n + i) other found) (same-run other found)
 
--- the events of a kind of all legs of a run, from its first on
-pub idle_run : (p : Plan) (b : Board) (k : MoveKind) (n : ℕ) (at : LegPlace) (run : Run) → leg_place b n ≡ Some at → slice_get b.runs at.run ≡ Some run → at.job ≡ 0 → at.leg ≡ 0
-    → is_run_idle k run ≡ true → (i : ℕ) → i < legs_of_jobs run.jobs → accepts p b (event_of k (n + i)) ≡ false
-idle_run p b k n at run is there job leg idle i within = refused p b n i at run is there job leg within k idle
+  -- the events of a kind of all legs of a run, from its first on
+  pub idle_run : (k : MoveKind) → is_run_idle k run ≡ true → accepts p b (event_of k (n + i)) ≡ false
+  idle_run MoveKind.Drop idle = found-refused (drop_found b (n + i)) refl (λ other stands same.
+      drop-refused b (n + i) other stands.job stands.leg (ap (is_run_idle MoveKind.Drop) (sym same) ∙ idle))
+  idle_run MoveKind.Ask idle = found-refused (ask_found b (n + i)) refl (λ other stands same.
+      ask-refused b (n + i) other stands.job stands.leg (ap (is_run_idle MoveKind.Ask) (sym same) ∙ idle))
+  idle_run k idle = absurd (true≢false (sym idle))

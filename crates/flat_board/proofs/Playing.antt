@@ -2,16 +2,20 @@
 use Rattle.std.proofs.Common.{◌≡◌, ℕ, zero, suc, ◌≤◌, Bool, List, [], ◌∷◌, map, slice_get, None, Result, Ok, Err, nat_le, if◌then◌else◌, ap, subst, sym, refl, ◌∙◌}
 use Rattle.std.proofs.lemmas.Bool.{le-leb}
 use Rattle.std.specs.List.{flat_map}
-use Rattle.status_table.specs.Words.{Answers, Board, Content, Entry, Event, InPlay, IsPlan, Job, KeptAsShown, Known, Leads, Leg, Member, Plan, Play, Plays, Reply, Row, SoundPlan, Stays, after_event, board_legs, content, event_row, is_known, new_board, new_job, new_leg, new_play, new_run, plan_jobs, plan_legs, row, ◌>>=◌}
+use Rattle.status_table.specs.Words.{Answers, Board, Content, Entry, Event, InPlay, IsPlan, Job, KeptAsShown, Known, Leg, Member, Plan, Play, Plays, Reply, Row, SoundPlan, Stays, after_event, board_legs, content, event_row, is_known, new_board, new_job, new_leg, new_play, new_run, plan_jobs, plan_legs, row, ◌>>=◌, done_of}
 use Rattle.status_table.proofs.Lists.{flat_map-map}
 use Rattle.board_counters.specs.Track.{play_of}
-use Rattle.flat_board.specs.Index.{Follows, FollowsUnasked, Goes, EventsKeep}
+use Rattle.flat_board.specs.Events.{Led}
+use Rattle.flat_board.specs.Index.{Follows, FollowsUnasked, Goes}
 use Rattle.flat_board.specs.Names.{NamesKnown, Seen, SeenNamed, leg_names, run_names}
 use Rattle.flat_board.specs.Sound.{IsSound}
 use Rattle.flat_board.specs.declared.grouped_board.GroupedBoard.{GroupedBoard}
+use Rattle.flat_board.specs.declared.undo.Undo.{Undo}
+use Rattle.flat_board.proofs.GroupLaws.{group_laws}
 use Rattle.flat_board.proofs.Known.{names_after}
 use Rattle.status_table.specs.declared.fault.EventFault.{EventFault}
-use Rattle.status_table.proofs.Grouped.{new_kept}
+use Rattle.status_table.proofs.Ended.{stays-same}
+use Rattle.status_table.proofs.Grouped.{event_kept, new_kept}
 use Rattle.status_table.proofs.InPlay.{new_in_play, answer_in_play}
 use Rattle.status_table.proofs.WithoutReply.{left_of, left_plays}
 
@@ -38,7 +42,7 @@ new_sound p made rules sound is none = record {
   names = subst (λ (g : Known). NamesKnown g made.state.board) (sym none) (subst (λ (x : Play). NamesKnown [] x.board) (sym is) (new_names p));
 }
 
-module _ (law : EventsKeep) (old new : GroupedBoard) (worker : ℕ) (e : Event) (few : worker ≤ 15) (sound : IsSound old) where
+module _ (old new : GroupedBoard) (worker : ℕ) (e : Event) (few : worker ≤ 15) (sound : IsSound old) where
   abbrev p : Plan
   p = old.state.plan
 
@@ -50,7 +54,7 @@ module _ (law : EventsKeep) (old new : GroupedBoard) (worker : ℕ) (e : Event) 
       let accepted : (if nat_le worker 15 then event_row p b worker e else Err EventFault.NoSuch) ≡ Ok (new.state.board, reply) =
       ap (λ c. if c then event_row p b worker e else Err EventFault.NoSuch) (le-leb worker 15 few) ∙ follows.answers in
       subst (λ (g : Content). KeptAsShown g new.state.board) (sym follows.groups.held)
-      (law p b worker (content old.groups) e (new.state.board, reply) sound.in_play.laws sound.kept accepted)
+      (event_kept group_laws p b worker (content old.groups) sound.in_play.laws sound.kept e (new.state.board, reply) accepted)
   kept (Err f) follows =
       subst (λ (g : Known). KeptAsShown (content g) new.state.board) (sym follows.groups) (subst (KeptAsShown (content old.groups)) (sym follows.answers.1) sound.kept)
 
@@ -78,21 +82,20 @@ stay : (old new : Known) → new ≡ old → (answer : Result Reply EventFault) 
 stay old new same (Ok reply) = record { held = ap content same; known = λ name h. ap (is_known name) same ∙ h }
 stay old new same (Err f) = same
 
--- What leads to an event's board is played without its reply, where the event leaves the groups as they are.
-pub led_unasked : (old new : GroupedBoard) (worker : ℕ) (e : Event) (result : Result (Unit {0}) EventFault)
-    → after_event old.state.plan old.state.board (content old.groups) e ≡ content old.groups → new.state.plan ≡ old.state.plan
-    → Leads (event_row old.state.plan old.state.board worker e) old.state.board result new.state.board → new.groups ≡ old.groups → FollowsUnasked old new worker e result
-led_unasked old new worker e result stays plan leads same =
-    let left = left_of (event_row old.state.plan old.state.board worker e) old.state.board result new.state.board leads in
-    record {
+-- An event whose reply nobody asks for is played without it, where the event leaves the groups as they are.
+pub led_unasked : (old new : GroupedBoard) (worker : ℕ) (e of : Event) (result : Result (Unit {0}) EventFault) (undo : Result Undo EventFault) → e ≡ of → result ≡ done_of undo
+    → after_event old.state.plan old.state.board (content old.groups) of ≡ content old.groups → Led old new worker of undo → FollowsUnasked old new worker e result
+led_unasked old new worker e of result undo e_is result_is stays led =
+    let left = left_of (event_row old.state.plan old.state.board worker of) old.state.board (done_of undo) new.state.board led.leads in
+    subst (λ (x : Event). FollowsUnasked old new worker x result) (sym e_is) (record {
       answer = left.answer;
       follows = record {
-        plan = plan;
+        plan = led.plan;
         answers = left.answers;
-        groups = subst (λ (to : Content). Goes left.answer old.groups to new.groups) (sym stays) (stay old.groups new.groups same left.answer);
+        groups = subst (λ (to : Content). Goes left.answer old.groups to new.groups) (sym stays) (stay old.groups new.groups led.groups left.answer);
       };
-      same = left.same;
-    }
+      same = result_is ∙ left.same;
+    })
 
 -- An event without its reply is as the entry's answer without it.
 pub plays_unasked : (old new : GroupedBoard) (e : Entry) (result : Result (Unit {0}) EventFault) → e.worker ≤ 15
@@ -104,3 +107,7 @@ plays_unasked old new e result few follows =
     let row_is : row p b e.worker e.event ≡ r = ap (λ (c : Bool). if c then r else Err EventFault.NoSuch) (le-leb e.worker 15 few) in
     subst (λ (x : Result (Unit {0}) EventFault). Plays p b e x new.state.board) (sym follows.same)
     (left_plays p b e follows.answer new.state.board (subst (λ (x : Row). Answers x b follows.answer new.state.board) (sym row_is) follows.follows.answers))
+
+-- where nothing is changed, what had ended is as it was
+pub stays_same : (b : Board) → Stays b b
+stays_same b = stays-same b

@@ -1,7 +1,7 @@
 -- The index of groups beside a board: names as they stand on
 -- the board, and the groups after what a member asks of them.
 use Rattle.std.specs.Prelude.{◌≡◌, ℕ, true, List, Option, Some, None, Result, Ok, Err}
-use Rattle.status_table.specs.Words.{Answers, Board, Content, EntersFromOutside, Entrance, Event, KeptAsShown, Known, Lawful, Member, Plan, Reply, ValueFault, after_enter, after_event, content, event_row, is_known, row, without_reply}
+use Rattle.status_table.specs.Words.{Answers, Content, Entrance, Event, Known, Member, Reply, ValueFault, after_enter, after_event, content, event_row, is_known, without_reply}
 use Rattle.flat_board.specs.Names.{IsName}
 use Rattle.flat_board.specs.declared.grouped_board.GroupedBoard.{GroupedBoard}
 use Rattle.status_table.specs.declared.fault.EventFault.{EventFault}
@@ -69,16 +69,3 @@ pub record FollowsUnasked (old new : GroupedBoard) (worker : ℕ) (e : Event)
   pub answer : Result Reply EventFault
   pub follows : Follows old new worker e answer
   pub same : result ≡ without_reply answer
-
--- ---- laws
-
--- Where a lawful board shows the groups, it does so after each event that is accepted.
-abbrev pub EventsKeep : Type 0
-EventsKeep =
-    (p : Plan) (b : Board) (worker : ℕ) (groups : Content) (e : Event) (x : Board × Reply)
-    → Lawful p b → KeptAsShown groups b
-    → row p b worker e ≡ Ok x → KeptAsShown (after_event p b groups e) x.0
-
--- Whoever may enter a group is in none.
-abbrev pub EntersOnce : Type 0
-EntersOnce = (p : Plan) (b : Board) (groups : Content) → KeptAsShown groups b → EntersFromOutside p b groups

@@ -1,3 +1,4 @@
+pub mod Events
 pub mod Idle
 pub mod Index
 pub mod Names

@@ -2,23 +2,21 @@
 //!
 //! Each function looks for a refusal first, makes what room it needs, and only then changes the board.
 
-ghost use Rattle.std.specs.Prelude.{◌≡◌, ◌≤◌, IfOk, OnOk, Some};
-ghost use Rattle.board_decisions.specs.Place.{job_at, leg_at, run_at};
+ghost use Rattle.std.specs.Prelude.{◌≡◌, ◌≤◌, Some};
+ghost use Rattle.board_decisions.specs.Place.{job_at};
 ghost use Rattle.board_decisions.specs.Seen.{job_seen};
-ghost use Rattle.flat_board.specs.Index.{Goes};
+ghost use Rattle.flat_board.specs.Events.{Answered, MovedBy};
 ghost use Rattle.flat_board.specs.Names.{NamesKnown};
-ghost use Rattle.flat_board.specs.Undo.{RestoresGroups};
+ghost use Rattle.flow_model.specs.declared.event.Event.TheVariants as event;
 ghost use Rattle.group_admission.specs.Known.{content};
-ghost use Rattle.status_table.specs.Answers.{Answers, Decides};
-ghost use Rattle.status_table.specs.Grouped.{KeptAsShown, leg_asked, leg_left, run_left, run_opened};
+ghost use Rattle.status_table.specs.Answers.{Decides};
+ghost use Rattle.status_table.specs.Grouped.{KeptAsShown};
 ghost use Rattle.status_table.specs.InPlay.{InPlay};
-ghost use Rattle.status_table.specs.Reversible.{answer_of};
 ghost use Rattle.status_table.specs.Row as spec;
 
 use crate::found::{find_job, find_leg, is_full, is_stopping, keep};
 use crate::grouped_board::GroupedBoard;
 use crate::groups::{Asker, leave, leave_leg, leg_stand, next_after, run_stand};
-use crate::laws::who_enters_is_outside;
 use crate::members::{close_run, drop_leg, pass_on, set_ended, stop_run};
 use crate::undo::CellBack;
 use board_counters::Counted;
@@ -49,10 +47,8 @@ fn judgement(
 {
     match (at.run.state, at.job.state) {
         (RunState::Going, JobState::Unjudged) => {},
-        (RunState::Going, JobState::Open) => return Err(EventFault::WrongState),
-        (RunState::Going, JobState::Shut(_)) => return Err(EventFault::WrongState),
-        (RunState::New, _) => return Err(EventFault::WrongState),
-        (RunState::Waiting, _) => return Err(EventFault::WrongState),
+        (RunState::Going, JobState::Open | JobState::Shut(_)) => return Err(EventFault::WrongState),
+        (RunState::New | RunState::Waiting, _) => return Err(EventFault::WrongState),
         (RunState::Closed(_), _) => return Err(EventFault::WrongState),
     }
     if !state.have_needs_ended(at.place) {
@@ -66,18 +62,12 @@ fn judgement(
 
 impl GroupedBoard {
     /// Starts a run that is new.
+    #[tactic(auto, using(crate::proofs::Reached::opens_outside))]
     pub(crate) fn open(&mut self, number: u64) -> Result<(Reply, Option<CellBack>), EventFault>
         requires kept { KeptAsShown (content self.old.groups) self.old.state.board }
         requires room { 4 ≤ self.old.state.room }
-        ensures plan { self.new.state.plan ≡ self.old.state.plan }
-        ensures answers { Answers (spec.open_row self.old.state.plan self.old.state.board number)
-            self.old.state.board (answer_of result) self.new.state.board }
-        ensures groups { Goes (answer_of result) self.old.groups (run_opened (content self.old.groups) number
-            (run_at self.old.state.plan self.old.state.board number)) self.new.groups }
-        ensures back { OnOk result (self.new.state.back ≡ self.old.state.back) }
-        ensures cell { IfOk result (λ both. RestoresGroups both.1 self.old self.new) }
+        ensures { MovedBy self.old self.new 0 (event.Open number) result }
     {
-        who_enters_is_outside();
         let play = self.state.counted();
         let Some(at) = find_run(play.plan(), play.board(), number as usize) else {
             return Err(EventFault::NoSuch);
@@ -85,8 +75,7 @@ impl GroupedBoard {
         match (at.run.state, at.run.stop) {
             (RunState::New, false) => {},
             (RunState::New, true) => return Err(EventFault::Stopping),
-            (RunState::Waiting, _) => return Err(EventFault::WrongState),
-            (RunState::Going, _) => return Err(EventFault::WrongState),
+            (RunState::Waiting | RunState::Going, _) => return Err(EventFault::WrongState),
             (RunState::Closed(_), _) => return Err(EventFault::WrongState),
         }
         let group = run_entrance(self.alloc, &at);
@@ -97,11 +86,7 @@ impl GroupedBoard {
     pub(crate) fn judge(&mut self, number: u64) -> Result<Reply, EventFault>
         requires play { InPlay self.old.state.plan self.old.state.board }
         requires room { 1 ≤ self.old.state.room }
-        ensures plan { self.new.state.plan ≡ self.old.state.plan }
-        ensures answers { Answers (spec.judge_row self.old.state.plan self.old.state.board number)
-            self.old.state.board result self.new.state.board }
-        ensures groups { self.new.groups ≡ self.old.groups }
-        ensures back { OnOk result (self.new.state.back ≡ self.old.state.back) }
+        ensures { Answered self.old self.new 0 (event.Judge number) result }
     {
         let play = self.state.counted();
         let Some(at) = find_job(play, number) else {
@@ -117,15 +102,8 @@ impl GroupedBoard {
     pub(crate) fn ask(&mut self, number: u64) -> Result<(Reply, Option<CellBack>), EventFault>
         requires kept { KeptAsShown (content self.old.groups) self.old.state.board }
         requires room { 4 ≤ self.old.state.room }
-        ensures plan { self.new.state.plan ≡ self.old.state.plan }
-        ensures answers { Answers (spec.ask_row self.old.state.plan self.old.state.board number)
-            self.old.state.board (answer_of result) self.new.state.board }
-        ensures groups { Goes (answer_of result) self.old.groups (leg_asked (content self.old.groups) number
-            (leg_at self.old.state.plan self.old.state.board number)) self.new.groups }
-        ensures back { OnOk result (self.new.state.back ≡ self.old.state.back) }
-        ensures cell { IfOk result (λ both. RestoresGroups both.1 self.old self.new) }
+        ensures { MovedBy self.old self.new 0 (event.Ask number) result }
     {
-        who_enters_is_outside();
         let Some(leg) = find_leg(self.state.counted(), number) else {
             return Err(EventFault::NoSuch);
         };
@@ -148,13 +126,7 @@ impl GroupedBoard {
         requires kept { KeptAsShown (content self.old.groups) self.old.state.board }
         requires names { NamesKnown self.old.groups self.old.state.board }
         requires room { 3 ≤ self.old.state.room }
-        ensures plan { self.new.state.plan ≡ self.old.state.plan }
-        ensures answers { Answers (spec.drop_row self.old.state.plan self.old.state.board number)
-            self.old.state.board (answer_of result) self.new.state.board }
-        ensures groups { Goes (answer_of result) self.old.groups (leg_left (content self.old.groups) number
-            (leg_at self.old.state.plan self.old.state.board number)) self.new.groups }
-        ensures back { OnOk result (self.new.state.back ≡ self.old.state.back) }
-        ensures cell { IfOk result (λ both. RestoresGroups both.1 self.old self.new) }
+        ensures { MovedBy self.old self.new 0 (event.Drop number) result }
     {
         let Some(leg) = find_leg(self.state.counted(), number) else {
             return Err(EventFault::NoSuch);
@@ -182,21 +154,15 @@ impl GroupedBoard {
     /// Gives a leg that is admitted to a worker.
     pub(crate) fn take(&mut self, worker: u8, number: u64) -> Result<Reply, EventFault>
         requires { 1 ≤ self.old.state.room }
-        ensures plan { self.new.state.plan ≡ self.old.state.plan }
-        ensures answers { Answers (spec.take_row self.old.state.plan self.old.state.board worker number)
-            self.old.state.board result self.new.state.board }
-        ensures groups { self.new.groups ≡ self.old.groups }
-        ensures back { OnOk result (self.new.state.back ≡ self.old.state.back) }
+        ensures { Answered self.old self.new worker (event.Take number) result }
     {
         let Some(leg) = find_leg(self.state.counted(), number) else {
             return Err(EventFault::NoSuch);
         };
         match leg.at.leg.state {
             LegState::Admitted => {},
-            LegState::Fresh => return Err(EventFault::WrongState),
-            LegState::Waiting => return Err(EventFault::WrongState),
-            LegState::Running { .. } => return Err(EventFault::WrongState),
-            LegState::Ended { .. } => return Err(EventFault::WrongState),
+            LegState::Fresh | LegState::Waiting => return Err(EventFault::WrongState),
+            LegState::Running { .. } | LegState::Ended { .. } => return Err(EventFault::WrongState),
         }
         if is_stopping(self.alloc, &leg)? {
             return Err(EventFault::Stopping);
@@ -218,11 +184,7 @@ impl GroupedBoard {
     /// Begins the next step of a leg: its call, that it is skipped, or that it failed.
     pub(crate) fn begin(&mut self, worker: u8, number: u64) -> Result<Reply, EventFault>
         requires { 1 ≤ self.old.state.room }
-        ensures plan { self.new.state.plan ≡ self.old.state.plan }
-        ensures answers { Answers (spec.begin_row self.old.state.plan self.old.state.board worker number)
-            self.old.state.board result self.new.state.board }
-        ensures groups { self.new.groups ≡ self.old.groups }
-        ensures back { OnOk result (self.new.state.back ≡ self.old.state.back) }
+        ensures { Answered self.old self.new worker (event.Begin number) result }
     {
         let Some(leg) = find_leg(self.state.counted(), number) else {
             return Err(EventFault::NoSuch);
@@ -260,11 +222,7 @@ impl GroupedBoard {
         answer: Answer,
     ) -> Result<Reply, EventFault>
         requires { 1 ≤ self.old.state.room }
-        ensures plan { self.new.state.plan ≡ self.old.state.plan }
-        ensures answers { Answers (spec.end_row self.old.state.plan self.old.state.board worker number answer)
-            self.old.state.board result self.new.state.board }
-        ensures groups { self.new.groups ≡ self.old.groups }
-        ensures back { OnOk result (self.new.state.back ≡ self.old.state.back) }
+        ensures { Answered self.old self.new worker (event.End number answer) result }
     {
         let Some(leg) = find_leg(self.state.counted(), number) else {
             return Err(EventFault::NoSuch);
@@ -285,13 +243,7 @@ impl GroupedBoard {
         requires kept { KeptAsShown (content self.old.groups) self.old.state.board }
         requires names { NamesKnown self.old.groups self.old.state.board }
         requires room { 3 ≤ self.old.state.room }
-        ensures plan { self.new.state.plan ≡ self.old.state.plan }
-        ensures answers { Answers (spec.finish_row self.old.state.plan self.old.state.board worker number)
-            self.old.state.board (answer_of result) self.new.state.board }
-        ensures groups { Goes (answer_of result) self.old.groups (leg_left (content self.old.groups) number
-            (leg_at self.old.state.plan self.old.state.board number)) self.new.groups }
-        ensures back { OnOk result (self.new.state.back ≡ self.old.state.back) }
-        ensures cell { IfOk result (λ both. RestoresGroups both.1 self.old self.new) }
+        ensures { MovedBy self.old self.new worker (event.Finish number) result }
     {
         let play = self.state.counted();
         let Some(leg) = find_leg(play, number) else {
@@ -318,13 +270,7 @@ impl GroupedBoard {
         requires kept { KeptAsShown (content self.old.groups) self.old.state.board }
         requires names { NamesKnown self.old.groups self.old.state.board }
         requires room { 2 ≤ self.old.state.room }
-        ensures plan { self.new.state.plan ≡ self.old.state.plan }
-        ensures answers { Answers (spec.close_row self.old.state.plan self.old.state.board number)
-            self.old.state.board (answer_of result) self.new.state.board }
-        ensures groups { Goes (answer_of result) self.old.groups (run_left (content self.old.groups) number
-            (run_at self.old.state.plan self.old.state.board number)) self.new.groups }
-        ensures back { OnOk result (self.new.state.back ≡ self.old.state.back) }
-        ensures cell { IfOk result (λ both. RestoresGroups both.1 self.old self.new) }
+        ensures { MovedBy self.old self.new 0 (event.Close number) result }
     {
         let play = self.state.counted();
         let Some(at) = find_run(play.plan(), play.board(), number as usize) else {
@@ -356,11 +302,7 @@ impl GroupedBoard {
     /// Tells a run to stop.
     pub(crate) fn cancel(&mut self, number: u64) -> Result<Reply, EventFault>
         requires { 1 ≤ self.old.state.room }
-        ensures plan { self.new.state.plan ≡ self.old.state.plan }
-        ensures answers { Answers (spec.cancel_row self.old.state.plan self.old.state.board number)
-            self.old.state.board result self.new.state.board }
-        ensures groups { self.new.groups ≡ self.old.groups }
-        ensures back { OnOk result (self.new.state.back ≡ self.old.state.back) }
+        ensures { Answered self.old self.new 0 (event.Cancel number) result }
     {
         let play = self.state.counted();
         let Some(at) = find_run(play.plan(), play.board(), number as usize) else {

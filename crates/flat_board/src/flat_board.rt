@@ -8,7 +8,6 @@ ghost use Rattle.status_table.specs.Runs.{new_play};
 
 use crate::grouped_board::GroupedBoard;
 use crate::groups::{holder, leg_stand, next_after, run_stand, waiter};
-use crate::laws::events_keep_the_groups;
 use crate::moves::{find_first, find_moves};
 use crate::undo::Undo;
 use board_counters::Tracked;
@@ -111,8 +110,8 @@ impl Table for FlatBoard {
 
     ghost board = { λ f. f.board };
 
+    #[tactic(auto, using(crate::proofs::Playing::stays_same))]
     fn apply(&mut self, entry: Entry) -> Result<Reply, EventFault> {
-        events_keep_the_groups();
         let _board = self.board();
         if entry.worker > 15 {
             return Err(EventFault::NoSuch);
@@ -120,8 +119,8 @@ impl Table for FlatBoard {
         self.play.play_asked(entry)
     }
 
+    #[tactic(auto, using(crate::proofs::Playing::stays_same))]
     fn advance(&mut self, entry: Entry) -> Result<(), EventFault> {
-        events_keep_the_groups();
         let _board = self.board();
         if entry.worker > 15 {
             return Err(EventFault::NoSuch);
@@ -156,8 +155,8 @@ impl Reversible for FlatBoard {
 
     ghost before = { board_before };
 
+    #[tactic(auto, using(crate::proofs::Playing::stays_same))]
     fn apply_with_undo(&mut self, entry: Entry) -> Result<(Reply, Undo), EventFault> {
-        events_keep_the_groups();
         let _board = self.board();
         if entry.worker > 15 {
             return Err(EventFault::NoSuch);
@@ -165,8 +164,8 @@ impl Reversible for FlatBoard {
         self.play.play_with_undo(entry)
     }
 
+    #[tactic(auto, using(crate::proofs::Playing::stays_same))]
     fn advance_with_undo(&mut self, entry: Entry) -> Result<Undo, EventFault> {
-        events_keep_the_groups();
         let _board = self.board();
         if entry.worker > 15 {
             return Err(EventFault::NoSuch);

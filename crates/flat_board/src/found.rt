@@ -67,6 +67,7 @@ pub(crate) fn is_full(leg: &TalliedLeg) -> bool
 /// Whether a leg is to stop whatever its job's condition:
 /// by itself, or since its job fails fast and has failed.
 #[inline(always)]
+#[tactic(auto, using(board_counters::proofs::Lists::any_counted))]
 fn stops_anyway(leg: &TalliedLeg) -> bool
     ensures { result ≡ decision.stops_anyway (leg_seen leg.now.at) }
 {

@@ -34,6 +34,17 @@ fn most_changes(event: &Event) -> usize
     }
 }
 
+/// What was done, without what takes it back.
+#[inline(always)]
+fn done(played: Result<Undo, EventFault>) -> Result<(), EventFault>
+    ensures { result ≡ done_of played }
+{
+    match played {
+        Ok(_) => Ok(()),
+        Err(fault) => Err(fault),
+    }
+}
+
 impl GroupedBoard {
     /// Plays an event that a worker from 0 to 15 reports.
     fn apply_event(&mut self, entry: Entry) -> Result<(Reply, Option<CellBack>), EventFault>
@@ -96,14 +107,13 @@ impl GroupedBoard {
     {
         let Entry { worker, event } = entry;
         match event {
-            Event::Begin { leg } => drop(self.begin_unasked(worker, leg)?),
-            Event::End { leg, answer } => drop(self.end_unasked(worker, leg, answer)?),
+            Event::Begin { leg } => done(self.begin_unasked(worker, leg)),
+            Event::End { leg, answer } => done(self.end_unasked(worker, leg, answer)),
             other => self.play_unasked(Entry {
                 worker,
                 event: other,
-            })?,
+            }),
         }
-        Ok(())
     }
 
     /// Plays an event, and gives what takes it back.

@@ -2,19 +2,19 @@
 //!
 //! Memory is asked for first; what comes after it changes the board in place.
 
-ghost use Rattle.std.specs.Prelude.{◌≡◌, ◌≤◌, ℕ, IfOk, List, None, Ok, OnOk, Option, Result, Some, false};
+ghost use Rattle.std.specs.Prelude.{◌≡◌, ◌≤◌, ℕ, List, None, Ok, OnOk, Option, Result, Some, false};
 ghost use Rattle.board_decisions.specs.Numbered.{leg_there as leg_there_of};
 ghost use Rattle.board_decisions.specs.Place.{LegAt};
 ghost use Rattle.board_decisions.specs.declared.entrance.Entrance.{Entrance as EntranceOf};
 ghost use Rattle.expr_value.specs.Answer.{Gives};
-ghost use Rattle.flat_board.specs.Index.{AsksNamed, EntersNamed, Goes, Keeps, entered};
+ghost use Rattle.flat_board.specs.Events.{Moved};
+ghost use Rattle.flat_board.specs.Index.{AsksNamed, EntersNamed, Keeps, entered};
 ghost use Rattle.flat_board.specs.Names.{IsGroup, IsName, group_at};
 ghost use Rattle.flat_board.specs.Stands.{StandsOnlyThere, standing_by};
-ghost use Rattle.flat_board.specs.Undo.{Leaves, RestoresGroups};
+ghost use Rattle.flat_board.specs.Undo.{Leaves};
 ghost use Rattle.flat_board.specs.declared.groups.Stand.{Stand as StandOf};
 ghost use Rattle.flow_model.specs.declared.board.Board.{Board as BoardOf};
 ghost use Rattle.flow_model.specs.declared.board.Leg.{Leg as LegOf};
-ghost use Rattle.flow_model.specs.declared.event.Member.{Member as MemberOf};
 ghost use Rattle.flow_model.specs.declared.event.Member.TheVariants as member;
 ghost use Rattle.flow_model.specs.declared.reply.ValueFault.{ValueFault as ValueFaultOf};
 ghost use Rattle.flow_model.specs.Mapping.{value_at};
@@ -24,7 +24,6 @@ ghost use Rattle.status_table.specs.Admissions.{asked, opened};
 ghost use Rattle.status_table.specs.Answers.{Answers};
 ghost use Rattle.status_table.specs.Grouped.{KeptAsShown};
 ghost use Rattle.status_table.specs.Groups as spec;
-ghost use Rattle.status_table.specs.Reversible.{answer_of};
 ghost use Rattle.status_table.specs.Row.{leg_enters, run_enters};
 
 use crate::grouped_board::GroupedBoard;
@@ -69,21 +68,17 @@ pub(crate) struct Asker {
 
 impl GroupedBoard {
     /// Lets a member wait for a name that is held, in the place of one that waited.
-    #[tactic(auto, using(crate::proofs::Kept::put_out_noted))]
+    #[tactic(auto, using(status_table::proofs::Kept::put_out_noted))]
     fn queue(&mut self, asked: Asked, held: Held) -> Result<(Reply, Option<CellBack>), EventFault>
         requires named { IsName asked.group.name }
         requires outside { is_in_group asked.entrant.who (content self.old.groups) ≡ false }
         requires held { value_at asked.group.name (content self.old.groups) ≡ Some held }
         requires other { spec.is_own asked.entrant.own held.holder ≡ false }
         requires room { 4 ≤ self.old.state.room }
-        ensures plan { self.new.state.plan ≡ self.old.state.plan }
-        ensures answers { Answers
+        ensures { Moved self.old self.new
             (Ok (spec.queued self.old.state.board asked.entrant.who asked.group held.holder held.waiter))
-            self.old.state.board (answer_of result) self.new.state.board }
-        ensures groups { Goes (answer_of result) self.old.groups (after_enter asked.group.name
-            asked.entrant.who asked.entrant.own (content self.old.groups)) self.new.groups }
-        ensures back { OnOk result (self.new.state.back ≡ self.old.state.back) }
-        ensures cell { IfOk result (λ both. RestoresGroups both.1 self.old self.new) }
+            (after_enter asked.group.name asked.entrant.who asked.entrant.own (content self.old.groups))
+            result }
     {
         let Asked { entrant, group } = asked;
         note_end(&mut self.state, held.waiter)?;
@@ -115,14 +110,10 @@ impl GroupedBoard {
         requires outside { is_in_group asked.entrant.who (content self.old.groups) ≡ false }
         requires held { value_at asked.group.name (content self.old.groups) ≡ Some held }
         requires room { 4 ≤ self.old.state.room }
-        ensures plan { self.new.state.plan ≡ self.old.state.plan }
-        ensures answers { Answers (Ok (spec.enters_held self.old.state.board asked.entrant.who
+        ensures { Moved self.old self.new (Ok (spec.enters_held self.old.state.board asked.entrant.who
             asked.entrant.own asked.group (Some held.holder) held.waiter))
-            self.old.state.board (answer_of result) self.new.state.board }
-        ensures groups { Goes (answer_of result) self.old.groups (after_enter asked.group.name
-            asked.entrant.who asked.entrant.own (content self.old.groups)) self.new.groups }
-        ensures back { OnOk result (self.new.state.back ≡ self.old.state.back) }
-        ensures cell { IfOk result (λ both. RestoresGroups both.1 self.old self.new) }
+            (after_enter asked.group.name asked.entrant.who asked.entrant.own (content self.old.groups))
+            result }
     {
         if is_own(asked.entrant.own, held.holder) {
             return Ok((cancel(&mut self.state, asked.entrant.who)?, None));
@@ -136,14 +127,10 @@ impl GroupedBoard {
         requires outside { is_in_group asked.entrant.who (content self.old.groups) ≡ false }
         requires free { value_at asked.group.name (content self.old.groups) ≡ None }
         requires room { 4 ≤ self.old.state.room }
-        ensures plan { self.new.state.plan ≡ self.old.state.plan }
-        ensures answers { (waited : Option MemberOf) → Answers (Ok (spec.enters_held self.old.state.board
-            asked.entrant.who asked.entrant.own asked.group None waited))
-            self.old.state.board (answer_of result) self.new.state.board }
-        ensures groups { Goes (answer_of result) self.old.groups (after_enter asked.group.name
-            asked.entrant.who asked.entrant.own (content self.old.groups)) self.new.groups }
-        ensures back { OnOk result (self.new.state.back ≡ self.old.state.back) }
-        ensures cell { IfOk result (λ both. RestoresGroups both.1 self.old self.new) }
+        ensures { Moved self.old self.new (Ok (spec.enters_held self.old.state.board asked.entrant.who
+            asked.entrant.own asked.group None None))
+            (after_enter asked.group.name asked.entrant.who asked.entrant.own (content self.old.groups))
+            result }
     {
         let Asked { entrant, group } = asked;
         self.groups.enter(group.name.as_str(), entrant.who, entrant.own, group.cancel)?;
@@ -165,13 +152,9 @@ impl GroupedBoard {
         requires outside { is_in_group entrant.who (content self.old.groups) ≡ false }
         requires kept { KeptAsShown (content self.old.groups) self.old.state.board }
         requires room { 4 ≤ self.old.state.room }
-        ensures plan { self.new.state.plan ≡ self.old.state.plan }
-        ensures answers { Answers (Ok (spec.enters self.old.state.board entrant.who entrant.own group))
-            self.old.state.board (answer_of result) self.new.state.board }
-        ensures groups { Goes (answer_of result) self.old.groups
-            (entered entrant.who entrant.own group (content self.old.groups)) self.new.groups }
-        ensures back { OnOk result (self.new.state.back ≡ self.old.state.back) }
-        ensures cell { IfOk result (λ both. RestoresGroups both.1 self.old self.new) }
+        ensures { Moved self.old self.new
+            (Ok (spec.enters self.old.state.board entrant.who entrant.own group))
+            (entered entrant.who entrant.own group (content self.old.groups)) result }
     {
         let Some(group) = group else {
             admit(&mut self.state, None, entrant.who);
@@ -193,17 +176,9 @@ impl GroupedBoard {
         requires outside { is_in_group (member.Run number) (content self.old.groups) ≡ false }
         requires kept { KeptAsShown (content self.old.groups) self.old.state.board }
         requires room { 4 ≤ self.old.state.room }
-        ensures plan { self.new.state.plan ≡ self.old.state.plan }
-        ensures answers { (value : Result (Option EntranceOf) ValueFaultOf)
-            → Gives (λ group. group) group value
-            → Answers (run_enters self.old.state.board number value)
-            self.old.state.board (answer_of result) self.new.state.board }
-        ensures groups { (value : Result (Option EntranceOf) ValueFaultOf)
-            → Gives (λ group. group) group value
-            → Goes (answer_of result) self.old.groups
-            (opened (content self.old.groups) number value) self.new.groups }
-        ensures back { OnOk result (self.new.state.back ≡ self.old.state.back) }
-        ensures cell { IfOk result (λ both. RestoresGroups both.1 self.old self.new) }
+        ensures { (value : Result (Option EntranceOf) ValueFaultOf) → Gives (λ group. group) group value
+            → Moved self.old self.new (run_enters self.old.state.board number value)
+            (opened (content self.old.groups) number value) result }
     {
         match group {
             Ok(group) => {
@@ -231,17 +206,10 @@ impl GroupedBoard {
         requires outside { is_in_group (member.Leg asker.leg) (content self.old.groups) ≡ false }
         requires kept { KeptAsShown (content self.old.groups) self.old.state.board }
         requires room { 4 ≤ self.old.state.room }
-        ensures plan { self.new.state.plan ≡ self.old.state.plan }
-        ensures answers { (at : LegAt) (value : Result (Option EntranceOf) ValueFaultOf)
+        ensures { (at : LegAt) (value : Result (Option EntranceOf) ValueFaultOf)
             → at.place.run ≡ asker.run → Gives (λ group. group) group value
-            → Answers (leg_enters self.old.state.board asker.leg at value)
-            self.old.state.board (answer_of result) self.new.state.board }
-        ensures groups { (value : Result (Option EntranceOf) ValueFaultOf)
-            → Gives (λ group. group) group value
-            → Goes (answer_of result) self.old.groups
-            (asked (content self.old.groups) asker.leg asker.run value) self.new.groups }
-        ensures back { OnOk result (self.new.state.back ≡ self.old.state.back) }
-        ensures cell { IfOk result (λ both. RestoresGroups both.1 self.old self.new) }
+            → Moved self.old self.new (leg_enters self.old.state.board asker.leg at value)
+            (asked (content self.old.groups) asker.leg asker.run value) result }
     {
         match group {
             Ok(group) => {
@@ -275,8 +243,7 @@ pub(crate) fn run_stand(state: RunState) -> Stand
     match state {
         RunState::Going => Stand::Holding,
         RunState::Waiting => Stand::Waiting,
-        RunState::New => Stand::Apart,
-        RunState::Closed(_) => Stand::Apart,
+        RunState::New | RunState::Closed(_) => Stand::Apart,
     }
 }
 
@@ -285,15 +252,14 @@ pub(crate) fn leg_stand(state: LegState) -> Stand
     ensures { (group : Option (List ℕ)) → spec.leg_stands state group ≡ standing_by result group }
 {
     match state {
-        LegState::Admitted => Stand::Holding,
-        LegState::Running { .. } => Stand::Holding,
+        LegState::Admitted | LegState::Running { .. } => Stand::Holding,
         LegState::Waiting => Stand::Waiting,
-        LegState::Fresh => Stand::Apart,
-        LegState::Ended { .. } => Stand::Apart,
+        LegState::Fresh | LegState::Ended { .. } => Stand::Apart,
     }
 }
 
 /// The member that holds the name of a group.
+#[tactic(auto, using(crate::proofs::Index::holder_told))]
 pub(crate) fn holder(groups: &Groups, name: &str) -> Option<Member>
     requires { IsName name.now }
     ensures { (b : BoardOf) → KeptAsShown (content groups.now) b → result ≡ spec.holder b name.now }
@@ -302,6 +268,7 @@ pub(crate) fn holder(groups: &Groups, name: &str) -> Option<Member>
 }
 
 /// The member that waits for the name of a group.
+#[tactic(auto, using(crate::proofs::Index::waiter_told))]
 pub(crate) fn waiter(groups: &Groups, name: &str) -> Option<Member>
     requires { IsName name.now }
     ensures { (b : BoardOf) → KeptAsShown (content groups.now) b → result ≡ spec.waiter b name.now }
@@ -328,8 +295,7 @@ pub(crate) fn next_after(groups: &Groups, stand: Stand, group: &Option<Text>) ->
 {
     match stand {
         Stand::Holding => waiter_of(groups, group),
-        Stand::Apart => None,
-        Stand::Waiting => None,
+        Stand::Apart | Stand::Waiting => None,
     }
 }
 

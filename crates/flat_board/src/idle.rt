@@ -7,6 +7,7 @@ ghost use Rattle.status_table.specs.Kinds.{event_of};
 ghost use Rattle.status_table.specs.Moves.{accepts};
 
 use board_counters::Counted;
+use board_decisions::place::item_at;
 use flow_model::{Run, RunState};
 use status_table::moves::MoveKind;
 
@@ -41,6 +42,7 @@ fn is_run_idle(state: &Counted, kind: MoveKind, place: usize, run: &Run) -> bool
 
 /// How many jobs, from a number on, are refused to be judged for sure: where that number is the first of a run's jobs, all of
 /// them, if none may be.
+#[tactic(auto, using(crate::proofs::PassedOver::idle_jobs))]
 fn count_idle_jobs(state: &Counted, number: u64) -> usize
     ensures { (i : ℕ) → i < result
         → accepts state.now.plan state.now.board (event.Judge (number + i)) ≡ false }
@@ -48,7 +50,7 @@ fn count_idle_jobs(state: &Counted, number: u64) -> usize
     let Some(place) = state.job_place(number) else {
         return 0;
     };
-    match state.board().runs.as_slice().get(place.run) {
+    match item_at(&state.board().runs, place.run) {
         Some(run) if place.job == 0 && is_all_judged(state, place.run, run) => run.jobs.len(),
         _ => 0,
     }
@@ -56,6 +58,7 @@ fn count_idle_jobs(state: &Counted, number: u64) -> usize
 
 /// How many events of a kind, from a number on, are refused for sure: where that number is the first of a run's legs, those of
 /// all of them, if nothing may happen to any.
+#[tactic(auto, using(crate::proofs::PassedOver::idle_run))]
 fn count_idle_legs(state: &Counted, kind: MoveKind, number: u64) -> usize
     ensures { (i : ℕ) → i < result
         → accepts state.now.plan state.now.board (event_of kind (number + i)) ≡ false }
@@ -66,7 +69,7 @@ fn count_idle_legs(state: &Counted, kind: MoveKind, number: u64) -> usize
     if place.job != 0 || place.leg != 0 {
         return 0;
     }
-    match state.board().runs.as_slice().get(place.run) {
+    match item_at(&state.board().runs, place.run) {
         Some(run) if is_run_idle(state, kind, place.run, run) => state.run_legs(place.run).all,
         _ => 0,
     }

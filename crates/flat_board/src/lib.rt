@@ -20,7 +20,6 @@ mod found;
 mod grouped_board;
 mod groups;
 mod idle;
-mod laws;
 mod members;
 mod moves;
 mod unasked;

@@ -1,6 +1,7 @@
 //! Changes of one member of a concurrency group, and of the legs that ended, with the counters.
 
 ghost use Rattle.std.specs.Prelude.{◌≡◌, ◌≤◌, ◌+◌, true, Some, OnOk, OnErr};
+ghost use Rattle.flat_board.specs.Events.{Turned};
 ghost use Rattle.flow_model.specs.declared.board.Board.{Board as BoardOf};
 ghost use Rattle.flow_model.specs.declared.event.Member.TheVariants as member;
 ghost use Rattle.status_table.specs.Groups as spec;
@@ -17,10 +18,7 @@ use std::alloc::{AllocError, Global};
 /// Changes the leg with a number, where there is one.
 fn change_leg(state: &mut Tracked, number: u64, how: LegChange)
     requires { 1 ≤ state.old.room }
-    ensures plan { state.new.plan ≡ state.old.plan }
-    ensures board { state.new.board ≡ with_numbered_leg state.old.board number (leg_after how) }
-    ensures back { state.new.back ≡ state.old.back }
-    ensures room { state.old.room ≤ state.new.room + 1 }
+    ensures { Turned state.old state.new (with_numbered_leg state.old.board number (leg_after how)) }
 {
     if let Some(place) = state.counted().leg_place(number) {
         state.change_leg(place, how);
@@ -30,11 +28,8 @@ fn change_leg(state: &mut Tracked, number: u64, how: LegChange)
 /// Puts the leg of a number into a state.
 fn set_state(state: &mut Tracked, number: u64, to: LegState)
     requires { 1 ≤ state.old.room }
-    ensures plan { state.new.plan ≡ state.old.plan }
-    ensures board { state.new.board
-        ≡ with_numbered_leg state.old.board number (λ leg. record leg { state = to }) }
-    ensures back { state.new.back ≡ state.old.back }
-    ensures room { state.old.room ≤ state.new.room + 1 }
+    ensures { Turned state.old state.new
+        (with_numbered_leg state.old.board number (λ leg. record leg { state = to })) }
 {
     change_leg(state, number, LegChange::State(to));
 }
@@ -42,10 +37,7 @@ fn set_state(state: &mut Tracked, number: u64, to: LegState)
 /// Admits a member, in the group with a name or in none.
 pub(crate) fn admit(state: &mut Tracked, name: Option<Text>, who: Member)
     requires { 1 ≤ state.old.room }
-    ensures plan { state.new.plan ≡ state.old.plan }
-    ensures board { state.new.board ≡ spec.admitted state.old.board name who }
-    ensures back { state.new.back ≡ state.old.back }
-    ensures room { state.old.room ≤ state.new.room + 1 }
+    ensures { Turned state.old state.new (spec.admitted state.old.board name who) }
 {
     match who {
         Member::Run(number) => {
@@ -60,10 +52,7 @@ pub(crate) fn admit(state: &mut Tracked, name: Option<Text>, who: Member)
 /// Lets a member wait for a name.
 pub(crate) fn delay(state: &mut Tracked, name: Text, who: Member)
     requires { 1 ≤ state.old.room }
-    ensures plan { state.new.plan ≡ state.old.plan }
-    ensures board { state.new.board ≡ spec.waits state.old.board name who }
-    ensures back { state.new.back ≡ state.old.back }
-    ensures room { state.old.room ≤ state.new.room + 1 }
+    ensures { Turned state.old state.new (spec.waits state.old.board name who) }
 {
     match who {
         Member::Run(number) => {
@@ -82,10 +71,7 @@ pub(crate) fn delay(state: &mut Tracked, name: Text, who: Member)
 /// Tells a run to stop.
 pub(crate) fn stop_run(state: &mut Tracked, number: u64)
     requires { 1 ≤ state.old.room }
-    ensures plan { state.new.plan ≡ state.old.plan }
-    ensures board { state.new.board ≡ spec.stopped state.old.board true (member.Run number) }
-    ensures back { state.new.back ≡ state.old.back }
-    ensures room { state.old.room ≤ state.new.room + 1 }
+    ensures { Turned state.old state.new (spec.stopped state.old.board true (member.Run number)) }
 {
     state.change_run(number, RunChange::Stop(true));
 }
@@ -93,10 +79,7 @@ pub(crate) fn stop_run(state: &mut Tracked, number: u64)
 /// Tells a member to stop, where that is wanted.
 pub(crate) fn stop(state: &mut Tracked, wanted: bool, who: Member)
     requires { 1 ≤ state.old.room }
-    ensures plan { state.new.plan ≡ state.old.plan }
-    ensures board { state.new.board ≡ spec.stopped state.old.board wanted who }
-    ensures back { state.new.back ≡ state.old.back }
-    ensures room { state.old.room ≤ state.new.room + 1 }
+    ensures { Turned state.old state.new (spec.stopped state.old.board wanted who) }
 {
     if !wanted {
         return;
@@ -110,10 +93,7 @@ pub(crate) fn stop(state: &mut Tracked, wanted: bool, who: Member)
 /// Ends a run.
 pub(crate) fn close_run(state: &mut Tracked, number: u64, how: Outcome)
     requires { 1 ≤ state.old.room }
-    ensures plan { state.new.plan ≡ state.old.plan }
-    ensures board { state.new.board ≡ spec.closed state.old.board number how }
-    ensures back { state.new.back ≡ state.old.back }
-    ensures room { state.old.room ≤ state.new.room + 1 }
+    ensures { Turned state.old state.new (spec.closed state.old.board number how) }
 {
     state.change_run(number, RunChange::State(RunState::Closed(how)));
 }
@@ -121,10 +101,7 @@ pub(crate) fn close_run(state: &mut Tracked, number: u64, how: Outcome)
 /// Lets who waited go on.
 pub(crate) fn pass_on(state: &mut Tracked, next: Option<Member>)
     requires { 1 ≤ state.old.room }
-    ensures plan { state.new.plan ≡ state.old.plan }
-    ensures board { state.new.board ≡ spec.passed_on state.old.board next }
-    ensures back { state.new.back ≡ state.old.back }
-    ensures room { state.old.room ≤ state.new.room + 1 }
+    ensures { Turned state.old state.new (spec.passed_on state.old.board next) }
 {
     match next {
         Some(Member::Run(number)) => state.change_run(number, RunChange::State(RunState::Going)),
@@ -161,10 +138,7 @@ pub(crate) fn forget_end(alloc: Global, state: &mut Tracked, who: Option<Member>
 /// Cancels a member whose end was noted.
 pub(crate) fn put_out(state: &mut Tracked, who: Option<Member>)
     requires { 1 ≤ state.old.room }
-    ensures plan { state.new.plan ≡ state.old.plan }
-    ensures board { state.new.board ≡ put_out_of state.old.board who }
-    ensures back { state.new.back ≡ state.old.back }
-    ensures room { state.old.room ≤ state.new.room + 1 }
+    ensures { Turned state.old state.new (put_out_of state.old.board who) }
 {
     match who {
         Some(Member::Run(number)) => close_run(state, number, Outcome::Cancelled),

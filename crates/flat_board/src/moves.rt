@@ -25,8 +25,7 @@ fn closes(state: &Counted, number: u64) -> bool
         return false;
     };
     match at.run.state {
-        RunState::New => at.run.stop,
-        RunState::Waiting => at.run.stop,
+        RunState::New | RunState::Waiting => at.run.stop,
         RunState::Going => state.have_jobs_ended(number as usize),
         RunState::Closed(_) => false,
     }
@@ -42,11 +41,8 @@ fn judges(state: &Counted, number: u64) -> bool
     };
     match (at.run.state, at.job.state) {
         (RunState::Going, JobState::Unjudged) => state.have_needs_ended(at.place),
-        (RunState::Going, JobState::Open) => false,
-        (RunState::Going, JobState::Shut(_)) => false,
-        (RunState::New, _) => false,
-        (RunState::Waiting, _) => false,
-        (RunState::Closed(_), _) => false,
+        (RunState::Going, JobState::Open | JobState::Shut(_)) => false,
+        (RunState::New | RunState::Waiting | RunState::Closed(_), _) => false,
     }
 }
 
@@ -65,7 +61,7 @@ fn drops(alloc: Global, state: &Counted, number: u64) -> Result<bool, AllocError
 }
 
 /// Whether a leg may ask.
-#[tactic(auto, using(crate::proofs::Accepting::leg_enters_accepted))]
+#[tactic(auto, using(status_table::proofs::Accepting::leg_enters_accepted))]
 fn asks(alloc: Global, state: &Counted, number: u64) -> Result<bool, AllocError>
     ensures { IfOk result
         (λ yes. yes ≡ rule.accepts state.now.plan state.now.board (event.Ask number)) }
@@ -96,7 +92,7 @@ fn accepts(alloc: Global, state: &Counted, kind: MoveKind, number: u64) -> Resul
 }
 
 /// The events of a kind that the table accepts, by ascending number, after others.
-#[tactic(auto, using(crate::proofs::Accepting::one_more, crate::proofs::Accepting::none_more))]
+#[tactic(auto, using(status_table::proofs::Accepting::one_more, status_table::proofs::Accepting::none_more))]
 fn add_moves(
     alloc: Global,
     state: &Counted,
@@ -126,6 +122,7 @@ struct Counts {
 }
 
 /// Counts the runs, jobs and legs of a board.
+#[tactic(auto, using(status_table::proofs::Accepting::jobs_counted, status_table::proofs::Accepting::legs_counted))]
 fn count_all(state: &Counted) -> Counts
     requires { InPlay state.now.plan state.now.board }
     ensures runs { result.runs ≡ length state.now.board.runs }

@@ -3,10 +3,10 @@
 //! Most steps begin with no text to be evaluated, and end by an exit that leaves nothing behind. What takes these back is
 //! known as they are played, and is given by itself.
 
-ghost use Rattle.std.specs.Prelude.{◌≡◌, ◌≤◌, None, IfOk, OnOk};
-ghost use Rattle.flat_board.specs.Undo.{board_before, cell_of};
-ghost use Rattle.status_table.specs.Reversible.{done_of};
-ghost use Rattle.status_table.specs.Row.{begin_row, end_row};
+ghost use Rattle.std.specs.Prelude.{◌≡◌, ◌≤◌, OnOk};
+ghost use Rattle.flat_board.specs.Events.{Led};
+ghost use Rattle.flow_model.specs.declared.event.Event.TheVariants as event;
+ghost use Rattle.status_table.specs.Row.{begin_row};
 ghost use Rattle.status_table.specs.Unasked.{Leads};
 
 use crate::found::{find_leg, keep};
@@ -54,12 +54,7 @@ impl GroupedBoard {
 
     /// Begins the next step of a leg, and gives what takes that back.
     fn begin_slowly(&mut self, worker: u8, number: u64) -> Result<Undo, EventFault>
-        ensures plan { self.new.state.plan ≡ self.old.state.plan }
-        ensures leads { Leads (begin_row self.old.state.plan self.old.state.board worker number)
-            self.old.state.board (done_of result) self.new.state.board }
-        ensures groups { self.new.groups ≡ self.old.groups }
-        ensures back { IfOk result (λ undo. board_before undo self.new.state.board ≡ self.old.state.board) }
-        ensures cell { IfOk result (λ undo. cell_of undo ≡ None) }
+        ensures { Led self.old self.new worker (event.Begin number) result }
     {
         let back = make_back(self.alloc)?;
         self.state.begin(1)?;
@@ -70,12 +65,7 @@ impl GroupedBoard {
     /// Begins the next step of a leg, whose call nobody asks for, and gives what takes it back.
     #[inline(always)]
     pub(crate) fn begin_unasked(&mut self, worker: u8, number: u64) -> Result<Undo, EventFault>
-        ensures plan { self.new.state.plan ≡ self.old.state.plan }
-        ensures leads { Leads (begin_row self.old.state.plan self.old.state.board worker number)
-            self.old.state.board (done_of result) self.new.state.board }
-        ensures groups { self.new.groups ≡ self.old.groups }
-        ensures back { IfOk result (λ undo. board_before undo self.new.state.board ≡ self.old.state.board) }
-        ensures cell { IfOk result (λ undo. cell_of undo ≡ None) }
+        ensures { Led self.old self.new worker (event.Begin number) result }
     {
         let play = self.state.counted();
         let Some(leg) = find_leg(play, number) else {
@@ -94,12 +84,7 @@ impl GroupedBoard {
 
     /// Ends the step of a leg, whose texts may have to be evaluated, and gives what takes it back.
     fn end_slowly(&mut self, worker: u8, number: u64, answer: Answer) -> Result<Undo, EventFault>
-        ensures plan { self.new.state.plan ≡ self.old.state.plan }
-        ensures leads { Leads (end_row self.old.state.plan self.old.state.board worker number answer)
-            self.old.state.board (done_of result) self.new.state.board }
-        ensures groups { self.new.groups ≡ self.old.groups }
-        ensures back { IfOk result (λ undo. board_before undo self.new.state.board ≡ self.old.state.board) }
-        ensures cell { IfOk result (λ undo. cell_of undo ≡ None) }
+        ensures { Led self.old self.new worker (event.End number answer) result }
     {
         let back = make_back(self.alloc)?;
         self.state.begin(1)?;
@@ -115,12 +100,7 @@ impl GroupedBoard {
         number: u64,
         answer: Answer,
     ) -> Result<Undo, EventFault>
-        ensures plan { self.new.state.plan ≡ self.old.state.plan }
-        ensures leads { Leads (end_row self.old.state.plan self.old.state.board worker number answer)
-            self.old.state.board (done_of result) self.new.state.board }
-        ensures groups { self.new.groups ≡ self.old.groups }
-        ensures back { IfOk result (λ undo. board_before undo self.new.state.board ≡ self.old.state.board) }
-        ensures cell { IfOk result (λ undo. cell_of undo ≡ None) }
+        ensures { Led self.old self.new worker (event.End number answer) result }
     {
         let Some(leg) = find_leg(self.state.counted(), number) else {
             return Err(EventFault::NoSuch);

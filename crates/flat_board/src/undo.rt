@@ -68,10 +68,7 @@ fn name_of(group: &Option<Text>) -> Option<&str>
 fn run_name(board: &Board, number: u64) -> Option<&str>
     ensures { option_map (λ name. name.now) result ≡ group_at board.now (member.Run number) }
 {
-    match board.runs.as_slice().get(number as usize) {
-        Some(run) => name_of(&run.group),
-        None => None,
-    }
+    name_of(&board.runs.as_slice().get(number as usize)?.group)
 }
 
 /// The name of the group of the leg at a place, if that was found.
@@ -79,16 +76,11 @@ fn leg_name(board: &Board, place: Option<LegPlace>) -> Option<&str>
     ensures { option_map (λ name. name.now) result
         ≡ option_and_then (λ leg. leg.group) (option_and_then (leg_there_of board.now) place) }
 {
-    let Some(place) = place else {
-        return None;
-    };
-    match leg_there(board, place) {
-        Some(leg) => name_of(&leg.group),
-        None => None,
-    }
+    name_of(&leg_there(board, place?)?.group)
 }
 
 /// The name of the group of a member.
+#[tactic(auto, using(crate::proofs::Names::placed_group))]
 fn name_at(state: &Counted, who: Member) -> Option<&str>
     ensures { option_map (λ name. name.now) result ≡ group_at state.now.board who }
 {

@@ -37,9 +37,3 @@ returns-in-None-clause-leaves c = λ b stood named there only.
           ∙ ap (λ (g : Option (List ℕ)). left groups who (standing_by stood g)) (sym c.in-None.is);
       back = refl;
     }
-
-pub returns-in-Some-clause-known : goal.returns-in-Some-clause-known
-returns-in-Some-clause-known c = λ q h. c.leave_name.ensures.known q ∙ h
-
-pub returns-in-None-clause-known : goal.returns-in-None-clause-known
-returns-in-None-clause-known c = λ q h. h

@@ -1,4 +1,4 @@
-use Rattle.std.proofs.Common.{length, sum_by, ap, sym, ◌∙◌, arith}
+use Rattle.std.proofs.Common.{length, sum_by, ap, ◌∙◌, arith}
 use Rattle.status_table.specs.Words.{Board, Run}
 use Rattle.status_table.proofs.Accepting.{jobs_counted, legs_counted}
 use Rattle.status_table.proofs.InPlay.{few_in_play, few_jobs_in_play}
@@ -19,13 +19,3 @@ count_legs-requires c =
     let counted = legs_counted b in
     let few = few_in_play c.args.state.now.plan c.plan-plan.result.now b c.plan-plan.ensures.same c.plan-plan.ensures.rules c.requires in
     omega (arith, same, counted, few)
-
-pub returns-clause-jobs : goal.returns-clause-jobs
-returns-clause-jobs c =
-    let runs_are = c.as_slice-runs.ensures ∙ ap (λ (x : Board). x.runs) c.board.ensures in
-    c.count_jobs.ensures ∙ ap (sum_by (λ (run : Run). length run.jobs)) runs_are ∙ sym (jobs_counted c.args.state.now.board)
-
-pub returns-clause-legs : goal.returns-clause-legs
-returns-clause-legs c =
-    let runs_are = c.as_slice-runs.ensures ∙ ap (λ (x : Board). x.runs) c.board.ensures in
-    c.count_legs.ensures ∙ ap (sum_by (λ (run : Run). sum_by (λ job. length job.legs) run.jobs)) runs_are ∙ sym (legs_counted c.args.state.now.board)

@@ -2,8 +2,7 @@ use Rattle.std.proofs.Common.{◌++◌, List, filter, slice_get, ap, ◌∙◌}
 use Rattle.std.proofs.lemmas.Result.{IfOk-weaker}
 use Rattle.status_table.specs.Words.{Event, accepts, events_of}
 use Rattle.status_table.specs.declared.moves.MoveKind.{MoveKind}
-use Rattle.status_table.proofs.Accepting.{in_order}
-use Rattle.flat_board.proofs.FirstMove.{as_counted}
+use Rattle.flat_board.proofs.FirstMove.{kind_by_kind}
 use Rattle.flat_board.proofs.moves.find_first.Goals as goal
 
 pub returns : goal.returns
@@ -22,6 +21,5 @@ returns c =
     let drops = c.in_ok-drops.ensures judge_too judges in
     IfOk-weaker c.first_or-4.result _ _ (λ first h.
     h ∙ ap (λ (xs : List Event). slice_get xs 0)
-    (in_order t (events_of MoveKind.Close n) (events_of MoveKind.Open n) (events_of MoveKind.Judge j) (events_of MoveKind.Drop l) (events_of MoveKind.Ask l)
-    ∙ ap (filter t) (as_counted b n j l c.count_all-counts.ensures.runs c.count_all-counts.ensures.jobs c.count_all-counts.ensures.legs)))
+    (kind_by_kind t b n j l c.count_all-counts.ensures.runs c.count_all-counts.ensures.jobs c.count_all-counts.ensures.legs))
     (c.first_or-4.ensures drop_too drops)

@@ -2,8 +2,7 @@ use Rattle.std.proofs.Common.{◌++◌, List, filter, ap, ◌∙◌}
 use Rattle.std.proofs.lemmas.Result.{IfOk-weaker}
 use Rattle.status_table.specs.Words.{Event, accepts, events_of}
 use Rattle.status_table.specs.declared.moves.MoveKind.{MoveKind}
-use Rattle.status_table.proofs.Accepting.{in_order}
-use Rattle.flat_board.proofs.FirstMove.{as_counted}
+use Rattle.flat_board.proofs.FirstMove.{kind_by_kind}
 use Rattle.flat_board.proofs.moves.find_moves.Goals as goal
 
 pub returns : goal.returns
@@ -19,6 +18,5 @@ returns c =
     let dropped = c.in_ok-dropped.ensures ∙ ap (λ (xs : List Event). xs ++ filter t (events_of MoveKind.Drop l)) judged in
     IfOk-weaker c.add_moves-5.result _ _ (λ all h.
     h ∙ ap (λ (xs : List Event). xs ++ filter t (events_of MoveKind.Ask l)) dropped
-    ∙ in_order t (events_of MoveKind.Close n) (events_of MoveKind.Open n) (events_of MoveKind.Judge j) (events_of MoveKind.Drop l) (events_of MoveKind.Ask l)
-    ∙ ap (filter t) (as_counted b n j l c.count_all-counts.ensures.runs c.count_all-counts.ensures.jobs c.count_all-counts.ensures.legs))
+    ∙ kind_by_kind t b n j l c.count_all-counts.ensures.runs c.count_all-counts.ensures.jobs c.count_all-counts.ensures.legs)
     c.add_moves-5.ensures

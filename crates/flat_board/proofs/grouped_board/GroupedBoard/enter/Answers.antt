@@ -1,7 +1,8 @@
 use Rattle.std.proofs.Common.{◌≡◌, Ok, Some, None, Option, ap, sym, subst, ◌∙◌}
 use Rattle.std.specs.Option.{option_map, option_and_then}
-use Rattle.status_table.specs.Words.{Answers, Done, Held, Member, answer_of, content, enters, enters_held, fold, holder, value_at, waiter}
-use Rattle.flat_board.specs.Index.{EntersNamed}
+use Rattle.status_table.specs.Words.{Done, Entrance, Held, Member, after_enter, content, enters, enters_held, fold, holder, value_at, waiter}
+use Rattle.flat_board.specs.Events.{Moved}
+use Rattle.flat_board.specs.Index.{EntersNamed, entered}
 use Rattle.flat_board.proofs.grouped_board.GroupedBoard.enter.Goals as goal
 
 pub enter_held-requires-clause-held : goal.enter_held-requires-clause-held
@@ -16,10 +17,11 @@ enter_free-requires-clause-free c =
     let named = subst EntersNamed c.in-Some.is c.requires.named in
     ap (λ n. value_at n groups) (sym (ap fold c.as_str.ensures ∙ named.folded)) ∙ sym c.held.ensures ∙ c.in-None.is
 
-pub returns-in-Some-held-clause-answers : goal.returns-in-Some-held-clause-answers
-returns-in-Some-held-clause-answers c =
+pub returns-in-Some-held : goal.returns-in-Some-held
+returns-in-Some-held c =
     let b = c.args.self.now.state.board in
     let groups = content c.args.self.now.groups in
+    let entrant = c.args.entrant in
     let group = c.in-Some.group in
     let named = subst EntersNamed c.in-Some.is c.requires.named in
     let there : Some c.in-Some-held.held ≡ value_at group.name groups =
@@ -28,20 +30,21 @@ returns-in-Some-held-clause-answers c =
     ap (option_map (λ (h : Held). h.holder)) there ∙ c.requires.kept.shown.holder group.name named.some in
     let waited : c.in-Some-held.held.waiter ≡ waiter b group.name =
     ap (option_and_then (λ (h : Held). h.waiter)) there ∙ c.requires.kept.shown.waiter group.name named.some in
-    let same : ◌≡◌ {A = Done} (enters_held b c.args.entrant.who c.args.entrant.own group (Some c.in-Some-held.held.holder) c.in-Some-held.held.waiter) (enters b c.args.entrant.who c.args.entrant.own c.args.group) =
-    (λ i. enters_held b c.args.entrant.who c.args.entrant.own group (held i) (waited i)) ∙ ap (enters b c.args.entrant.who c.args.entrant.own) (sym c.in-Some.is) in
-    subst (λ (d : Done). Answers (Ok d) b (answer_of c.enter_held.result) c.enter_held.new.self.state.board) same c.enter_held.ensures.answers
+    subst (λ (g : Option Entrance). Moved c.args.self.now c.enter_held.new.self (Ok (enters b entrant.who entrant.own g)) (entered entrant.who entrant.own g groups) c.enter_held.result) (sym c.in-Some.is)
+    (subst (λ (d : Done). Moved c.args.self.now c.enter_held.new.self (Ok d) (after_enter group.name entrant.who entrant.own groups) c.enter_held.result)
+    (λ i. enters_held b entrant.who entrant.own group (held i) (waited i)) c.enter_held.ensures)
 
-pub returns-in-None-clause-answers : goal.returns-in-None-clause-answers
-returns-in-None-clause-answers c =
+pub returns-in-None : goal.returns-in-None
+returns-in-None c =
     let b = c.args.self.now.state.board in
     let groups = content c.args.self.now.groups in
+    let entrant = c.args.entrant in
     let group = c.in-Some.group in
     let named = subst EntersNamed c.in-Some.is c.requires.named in
     let there : ◌≡◌ {A = Option Held} None (value_at group.name groups) =
     sym c.in-None.is ∙ c.held.ensures ∙ ap (λ n. value_at n groups) (ap fold c.as_str.ensures ∙ named.folded) in
     let held : ◌≡◌ {A = Option Member} None (holder b group.name) =
     ap (option_map (λ (h : Held). h.holder)) there ∙ c.requires.kept.shown.holder group.name named.some in
-    let same : ◌≡◌ {A = Done} (enters_held b c.args.entrant.who c.args.entrant.own group None (waiter b group.name)) (enters b c.args.entrant.who c.args.entrant.own c.args.group) =
-    (λ i. enters_held b c.args.entrant.who c.args.entrant.own group (held i) (waiter b group.name)) ∙ ap (enters b c.args.entrant.who c.args.entrant.own) (sym c.in-Some.is) in
-    subst (λ (d : Done). Answers (Ok d) b (answer_of c.enter_free.result) c.enter_free.new.self.state.board) same (c.enter_free.ensures.answers (waiter b group.name))
+    subst (λ (g : Option Entrance). Moved c.args.self.now c.enter_free.new.self (Ok (enters b entrant.who entrant.own g)) (entered entrant.who entrant.own g groups) c.enter_free.result) (sym c.in-Some.is)
+    (subst (λ (d : Done). Moved c.args.self.now c.enter_free.new.self (Ok d) (after_enter group.name entrant.who entrant.own groups) c.enter_free.result)
+    (λ i. enters_held b entrant.who entrant.own group (held i) (waiter b group.name)) c.enter_free.ensures)
