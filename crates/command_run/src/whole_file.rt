@@ -1,7 +1,8 @@
 //! Files that are written whole, or not at all.
 
+use crate::growing_files::name_beside;
 use command_io::stream::{Output, Sink};
-use std::alloc::{AllocError, Global};
+use std::alloc::Global;
 use std::fs::{File, Files, Metadata, OpenFile};
 use std::io::ErrorKind;
 use std::os::unix::fs::{MetadataExt, lchown};
@@ -15,16 +16,9 @@ struct Next<F> {
     name: String,
 }
 
-/// The name of the file that is to take the place of the one of that name.
-fn next_name(alloc: Global, name: &str) -> Result<String, AllocError> {
-    let mut next = String::from_str(alloc, name)?;
-    next.push_str(".new")?;
-    Ok(next)
-}
-
 /// A new file that is to take the place of the one of that name.
 fn next_file<F: Files>(files: &F, alloc: Global, name: &str) -> io::Result<Next<F::File>> {
-    let name = next_name(alloc, name)?;
+    let name = name_beside(alloc, name, ".new")?;
     let file = new_file(files, name.as_str())?;
     Ok(Next { file, name })
 }
