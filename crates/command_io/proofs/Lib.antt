@@ -1,3 +1,4 @@
+pub mod ErrorLines
 pub mod InRange
 pub mod Known
 pub mod LineReading

@@ -24,7 +24,7 @@ plain b = not (nat_lt b 32) && not (b == 127)
 low_picture : (c : ℕ) → nat_lt (picture c) 128 ≡ true → plain (picture c) ≡ true
 low_picture c low = grind arith
 
-both : (a b : List ℕ) → is_plain a ≡ true → is_plain b ≡ true → is_plain (a ++ b) ≡ true
+pub both : (a b : List ℕ) → is_plain a ≡ true → is_plain b ≡ true → is_plain (a ++ b) ≡ true
 both a b first second = list_all-append plain a b ∙ (λ i. first i && second i)
 
 plain_character : (p : ℕ) → (nat_lt p 128 ≡ true → plain p ≡ true) → is_plain (encode_utf8 p) ≡ true

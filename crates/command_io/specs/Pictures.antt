@@ -28,6 +28,10 @@ line_of text = ended (shown text)
 abbrev pub is_plain : List ℕ → Bool
 is_plain bytes = list_all (λ b. not (nat_lt b 32) && not (b == 127)) bytes
 
+-- The text is one line without a control character but for its end.
+abbrev pub IsPlainLine : List ℕ → Type 0
+IsPlainLine text = (words : List ℕ) × ((is_plain words ≡ true) × (text ≡ ended words))
+
 -- The text is made of lines without a control character but for their ends.
 abbrev pub HasPlainLines : List ℕ → Type 0
 HasPlainLines text = (lines : List (List ℕ)) × ((list_all is_plain lines ≡ true) × (text ≡ flat_map ended lines))
