@@ -1,5 +1,5 @@
 -- Going over the files of workflows.
-use Rattle.std.proofs.Common.{◌≡◌, ◌∙◌, ◌<◌, ◌≤◌, ◌+◌, ℕ, List, [], ◌∷◌, ◌++◌, length, drop, sym, subst, append-nil}
+use Rattle.std.proofs.Common.{◌≤◌, ℕ, List, [], ◌++◌, length, drop, sym, subst, append-nil}
 use Rattle.std.proofs.lemmas.List.{drop_all}
 use Rattle.status_table.specs.Words.{Workflow}
 use Rattle.command_io.specs.Files.{Content}

@@ -8,4 +8,5 @@ pub mod OneAnswer
 pub mod OneTelling
 pub mod Places
 pub mod Settled
+pub mod SomeTelling
 pub mod Unplanned

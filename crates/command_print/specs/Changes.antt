@@ -6,10 +6,10 @@ use Rattle.status_table.specs.Words.{Board, Entry, Plan, Refuses, StopsAt, after
 use Rattle.plan_text.specs.BoardText.{board_text}
 use Rattle.plan_text.specs.Changes.{AddsOf, TellsBoth, TellsChanges}
 use Rattle.status_table.specs.declared.fault.EventFault.{EventFault}
-use Rattle.command_io.specs.Records.{IsStopped, OfRecord, TellsShown}
+use Rattle.command_io.specs.Records.{IsShownAnswer, IsStopped, OfRecord, TellsShown}
 use Rattle.command_io.specs.Runs.{runs_status}
 use Rattle.command_io.specs.Stream.{Stream}
-use Rattle.command_io.specs.Tell.{Printed}
+use Rattle.command_io.specs.Tell.{Answer, Printed}
 use Rattle.command_io.specs.declared.error.CommandError.{CommandError}
 use Rattle.command_print.specs.Replay.{LeadsTo}
 
@@ -52,6 +52,10 @@ ShowsChanges text shown status = OfRecord text (AreTold shown status)
 abbrev pub OneTextOfChanges : Type 0
 OneTextOfChanges = (text one other : List ℕ) (status status' : ℕ) → ShowsChanges text one status → ShowsChanges text other status'
     → (one ≡ other) × (status ≡ status')
+
+-- To every text there is an answer: its places and a status, or why it is no record that is played to its end.
+abbrev pub SomeTextOfChanges : Type 0
+SomeTextOfChanges = (text : List ℕ) → (status : ℕ) × (answer : Answer) × IsShownAnswer ShowsChanges status text answer
 
 -- What `replay --changes` leaves.
 abbrev pub ChangesTells : Stream → Stream → Stream → Stream → Stream → Stream → ℕ → Type 0
