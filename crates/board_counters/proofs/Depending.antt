@@ -3,10 +3,8 @@ use Rattle.std.proofs.Common.{◌≡◌, ◌≢◌, ℕ, zero, suc, ◌-◌, ◌
 use Rattle.std.proofs.lemmas.Bool.Decides.{nat_tests}
 use Rattle.std.proofs.lemmas.List.Sums.{sum_by-cons}
 use Rattle.std.proofs.lemmas.Option.{slice_get-map}
-use Rattle.status_table.specs.Words.{Job, JobPlan, changed, sizes}
+use Rattle.board_counters.specs.Words.{Job, JobPlan, all_noted, changed, dependents_each, dependents_from, dependents_of, first_number, noted, sizes, times_named}
 use Rattle.board_decisions.proofs.Lists.{same_some}
-use Rattle.board_counters.specs.Counters.{first_number}
-use Rattle.board_counters.specs.Dependents.{all_noted, dependents_each, dependents_from, dependents_of, noted, times_named}
 use Rattle.board_counters.proofs.Tallies.{get_changed}
 use Rattle.status_table.proofs.Counts.{one}
 use Rattle.status_table.proofs.Lists.{changed-elsewhere}

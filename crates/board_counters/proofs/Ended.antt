@@ -1,10 +1,7 @@
 -- What has ended, by the counters.
 use Rattle.std.proofs.Common.{◌≡◌, ℕ, zero, suc, ◌+◌, ◌-◌, ◌==◌, ◌||◌, Bool, true, false, not, List, [], ◌∷◌, Option, Some, slice_get, map, count_by, ap, sym, refl, ◌∙◌, arith}
-use Rattle.std.specs.List.{list_all}
+use Rattle.board_counters.specs.Words.{Board, InPlay, Job, JobAt, JobPlan, Leg, Need, NeedsPointBack, Plan, Run, RunPlan, first_job, first_number, first_of, holds_at, is_closed, is_ended, is_going, is_settled, is_shut, job_at, job_has_ended, jobs_have_ended, list_all, need_of, needs_have_ended, needs_none, needs_of, run_needs, settled_jobs, ◌>>=◌}
 use Rattle.std.proofs.lemmas.Bool.{true≢false}
-use Rattle.status_table.specs.Words.{Board, InPlay, Job, JobAt, JobPlan, Leg, NeedsPointBack, Plan, Run, RunPlan, first_job, first_of, holds_at, is_closed, is_ended, is_going, is_shut, job_at, job_has_ended, jobs_have_ended, needs_have_ended, ◌>>=◌}
-use Rattle.board_counters.specs.Counters.{is_settled, settled_jobs, first_number, need_of, run_needs, needs_of, needs_none}
-use Rattle.board_counters.specs.declared.need.Need.{Need}
 use Rattle.board_counters.proofs.Lists.{all-counted}
 use Rattle.board_decisions.proofs.Lists.{map-get, same_some, no_some}
 use Rattle.status_table.proofs.Found.{JobStands, job_stands}

@@ -3,10 +3,7 @@ use Rattle.std.proofs.Common.{◌≡◌, ℕ, suc, ◌-◌, ◌||◌, Bool, true
 use Rattle.std.proofs.lemmas.Bool.{true≢false}
 use Rattle.std.proofs.lemmas.List.Folds.{list_any-append}
 use Rattle.std.proofs.lemmas.Option.{slice_get-map}
-use Rattle.status_table.specs.Words.{Board, DoneStep, Job, Leg, LegPlace, LegState, Run, changed, is_failure, leg_after, leg_there, step_done, with_leg, ◌>>=◌}
-use Rattle.board_counters.specs.Changes.{step_taken}
-use Rattle.board_counters.specs.Failing.{any_failed, failing_at, failing_noted, failing_of, failing_set, failing_taken, job_failing, leg_failed, leg_failing, or_false, run_failing}
-use Rattle.status_table.specs.declared.change.LegChange.{LegChange}
+use Rattle.board_counters.specs.Words.{Board, DoneStep, Job, Leg, LegChange, LegPlace, LegState, Run, any_failed, changed, failing_at, failing_noted, failing_of, failing_set, failing_taken, is_failure, job_failing, leg_after, leg_failed, leg_failing, leg_there, or_false, run_failing, step_done, step_taken, with_leg, ◌>>=◌}
 use Rattle.board_counters.proofs.Lists.{map-changed, map-same}
 use Rattle.board_counters.proofs.Tallies.{in_job, in_run, leg_there_changed, there}
 

@@ -1,22 +1,6 @@
 -- What is kept beside a board after a change of it.
 use Rattle.std.proofs.Common.{◌≡◌, ℕ, inl, inr, Bool, true, false, List, Option, map, slice_get, ap, subst, sym, refl, ◌∙◌, length}
-use Rattle.status_table.specs.Words.{Board, Job, JobPlace, JobState, Leg, LegPlace, LegState, Plan, Run, changed, run_sizes, with_job, with_leg, with_run, sizes}
-use Rattle.board_counters.specs.Changes.{CameTo, LegRecounted, job_of, resettled, run_after, standing_counted}
-use Rattle.board_counters.specs.Counted.{IsCounted}
-use Rattle.board_counters.specs.Counters.{is_settled, moved, needs_of, tallies_of, tally_of}
-use Rattle.board_counters.specs.Dependents.{all_dependents, dependents_at}
-use Rattle.board_counters.specs.Failing.{failing_of, job_failing}
-use Rattle.board_counters.specs.Lasting.{IsLasting}
-use Rattle.board_counters.specs.Standing.{run_moved, run_tally, standing_read}
-use Rattle.board_counters.specs.Stopping.{run_legs}
-use Rattle.board_counters.specs.declared.change.RunChange.{RunChange}
-use Rattle.board_counters.specs.declared.counts.Counts.{Counts}
-use Rattle.board_counters.specs.declared.lasting.Lasting.{Lasting}
-use Rattle.board_counters.specs.declared.need.Need.{Need}
-use Rattle.board_counters.specs.declared.standing.JobStanding.{JobStanding}
-use Rattle.board_counters.specs.declared.standing.RunTally.{RunTally}
-use Rattle.board_counters.specs.declared.stopping.RunLegs.{RunLegs}
-use Rattle.board_counters.specs.declared.tally.Tally.{Tally}
+use Rattle.board_counters.specs.Words.{Board, CameTo, Counts, IsCounted, IsLasting, Job, JobPlace, JobStanding, JobState, Lasting, Leg, LegPlace, LegRecounted, LegState, Need, Plan, Run, RunChange, RunLegs, RunTally, Tally, all_dependents, changed, dependents_at, failing_of, is_settled, job_failing, job_of, moved, needs_of, resettled, run_after, run_legs, run_moved, run_sizes, run_tally, sizes, standing_counted, standing_read, tallies_of, tally_of, with_job, with_leg, with_run}
 use Rattle.board_counters.proofs.Lists.{changed-same, jobs-kept, map-same}
 use Rattle.board_counters.proofs.Needs.{needs_follow, needs-kept, settled_in}
 use Rattle.board_counters.proofs.Placed.{still_lasts}

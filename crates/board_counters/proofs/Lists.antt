@@ -1,12 +1,10 @@
 -- Lists with one item changed: what is made of each item, and how many pass a test.
 use Rattle.std.proofs.Common.{◌≡◌, ℕ, zero, suc, ◌+◌, ◌<◌, ◌≤◌, ◌||◌, Bool, true, false, List, [], ◌∷◌, ◌++◌, Some, None, length, map, drop, get_or, slice_get, slice_set, nat_lt, count_by, if◌then◌else◌, append_assoc, ap, sym, refl, ◌∙◌, arith, ◌==◌, not, zero-add}
-use Rattle.std.specs.List.{list_all, list_any}
+use Rattle.board_counters.specs.Words.{Job, Run, changed, list_all, list_any, put, turned}
 use Rattle.std.proofs.lemmas.Bool.Decides.{nat_tests}
 use Rattle.std.proofs.lemmas.List.{drop_more}
 use Rattle.std.proofs.lemmas.List.Folds.{sum_by-zero}
 use Rattle.std.proofs.lemmas.List.Sums.{sum_by-cons, count_by-le-length}
-use Rattle.status_table.specs.Words.{changed, put, Job, Run}
-use Rattle.board_counters.specs.Counters.{turned}
 use Rattle.status_table.proofs.Counts.{one, sum-changed}
 use Rattle.status_table.proofs.Lists.{changed-cons, length-changed}
 use Rattle.board_decisions.proofs.Lists.{same_some, no_some}

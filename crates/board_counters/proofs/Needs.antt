@@ -2,12 +2,8 @@
 use Rattle.std.proofs.Common.{◌≡◌, ◌≢◌, ℕ, zero, suc, Bool, true, false, List, [], ◌∷◌, Option, Some, None, length, map, option_map, slice_get, ap, sym, refl, ◌∙◌}
 use Rattle.std.proofs.lemmas.Bool.{true≢false}
 use Rattle.std.proofs.lemmas.Option.{slice_get-map}
-use Rattle.status_table.specs.Words.{Job, Run, RunPlan, changed, holds, holds_at, run_sizes, sizes}
+use Rattle.board_counters.specs.Words.{Job, Need, Run, RunPlan, all_dependents, changed, dependents_at, dependents_each, dependents_of, first_number, holds, holds_at, is_settled, need_of, needs_of, needs_turned, or_nobody, resettled, run_needs, run_sizes, settled_jobs, sizes}
 use Rattle.board_decisions.proofs.Lists.{map-get, map-past}
-use Rattle.board_counters.specs.Changes.{needs_turned, resettled}
-use Rattle.board_counters.specs.Counters.{is_settled, settled_jobs, first_number, need_of, run_needs, needs_of}
-use Rattle.board_counters.specs.Dependents.{all_dependents, dependents_at, dependents_each, dependents_of, or_nobody}
-use Rattle.board_counters.specs.declared.need.Need.{Need}
 use Rattle.board_counters.proofs.Depending.{dependents_there}
 use Rattle.board_counters.proofs.Lists.{changed-none, changed-same, map-same}
 use Rattle.board_counters.proofs.Tallies.{get_changed}

@@ -1,11 +1,7 @@
 -- What is kept of a board and stays, whatever is changed of it.
 use Rattle.std.proofs.Common.{◌≡◌, ◌<◌, ◌+◌, ℕ, List, [], ◌∷◌, ◌++◌, Option, Some, None, length, take, get_or, slice_get, ap, subst, sym, refl, ◌∙◌}
-use Rattle.std.specs.List.{AllZip}
+use Rattle.board_counters.specs.Words.{AllZip, AreCallsOf, Board, Calls, IsLasting, JobPlace, JobPlan, Lasting, Outcome, Plan, RunPlan, StepPlan, Tells, TellsJobs, TellsRuns, TellsSteps, all_dependents, all_jobs_from, all_legs_from, called_as, calls_at, is_called, leg_result, or_unknown, run_sizes, step_decision, ◌>>=◌}
 use Rattle.std.proofs.lemmas.List.{take_more}
-use Rattle.status_table.specs.Words.{AreCallsOf, Board, Calls, JobPlace, JobPlan, Outcome, Plan, RunPlan, StepPlan, Tells, all_jobs_from, all_legs_from, called_as, is_called, leg_result, run_sizes, step_decision, ◌>>=◌}
-use Rattle.board_counters.specs.Dependents.{all_dependents}
-use Rattle.board_counters.specs.Lasting.{IsLasting, TellsJobs, TellsRuns, TellsSteps, calls_at, or_unknown}
-use Rattle.board_counters.specs.declared.lasting.Lasting.{Lasting}
 use Rattle.status_table.proofs.Lists.{zip-append, zip-get}
 
 pub still_lasts : (p : Plan) (b new : Board) (lasting : Lasting) → run_sizes new.runs ≡ run_sizes b.runs → IsLasting p b lasting → IsLasting p new lasting

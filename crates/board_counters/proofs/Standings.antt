@@ -1,13 +1,7 @@
 -- How jobs stand by their tallies, and the counts of a run's jobs after one was changed.
 use Rattle.std.proofs.Common.{◌≡◌, ℕ, ◌==◌, ◌||◌, ◌&&◌, Bool, true, false, List, [], ◌∷◌, Option, Some, None, map, option_map, slice_get, length, nat_lt, if◌then◌else◌, ap, sym, refl, ◌∙◌, count_by}
-use Rattle.std.specs.List.{list_all, list_any}
+use Rattle.board_counters.specs.Words.{Board, Job, JobCounter, JobStanding, JobState, Leg, LegPlace, Outcome, Run, RunState, RunTally, all_succeed, changed, counted_jobs, counts_job, has_failed, holds, is_cancelled, is_failure, is_going, is_settled, is_success, job_result, jobs_have_ended, legs_result, list_all, list_any, no_standing, result_by, result_with, run_moved, run_result, run_tally, run_tally_there, settled_jobs, standing_by, standing_given, standing_of, standing_read, tallies_of, tally_of, tally_result, told_result, turned, was_cancelled, with_leg}
 use Rattle.std.proofs.lemmas.Bool.{true≢false}
-use Rattle.status_table.specs.Words.{Board, Job, JobState, Leg, LegPlace, Outcome, Run, RunState, all_succeed, changed, has_failed, holds, is_cancelled, is_failure, is_going, is_success, job_result, jobs_have_ended, legs_result, result_by, run_result, was_cancelled, with_leg}
-use Rattle.board_counters.specs.Counters.{is_settled, settled_jobs, tally_of, tallies_of, turned}
-use Rattle.board_counters.specs.Standing.{counted_jobs, counts_job, no_standing, run_moved, run_tally, run_tally_there, standing_by, standing_given, standing_of, result_with, standing_read, tally_result, told_result}
-use Rattle.board_counters.specs.declared.standing.JobCounter.{JobCounter}
-use Rattle.board_counters.specs.declared.standing.JobStanding.{JobStanding}
-use Rattle.board_counters.specs.declared.standing.RunTally.{RunTally}
 use Rattle.board_counters.proofs.Ended.{jobs_ended}
 use Rattle.board_counters.proofs.Lists.{all-counted, any_counted, changed-none, count-changed, map-changed}
 use Rattle.board_decisions.proofs.Lists.{map-get, map-past}

@@ -1,13 +1,8 @@
 -- How many legs of a run are told to stop, after a change.
 use Rattle.std.proofs.Common.{◌≡◌, ℕ, ◌+◌, ◌<◌, ◌≤◌, Bool, false, List, Option, Some, None, length, map, option_map, slice_get, get_or, count_by, sum_by, ap, sym, refl, ◌∙◌, arith}
 use Rattle.std.proofs.lemmas.List.Sums.{count_by-le-length, get_or-le-sum_by, sum_by-le-sum_by}
-use Rattle.status_table.specs.Words.{Board, IsPlan, Job, Leg, LegPlace, Plan, Run, RunPlan, SoundPlan, changed, leg_after, leg_there, new_board, new_job, new_leg, new_run, with_leg, ◌>>=◌}
+use Rattle.board_counters.specs.Words.{Board, IsPlan, Job, Leg, LegChange, LegPlace, Plan, Run, RunLegs, RunPlan, SoundPlan, changed, is_told, leg_after, leg_there, leg_was, legs_of_jobs, new_board, new_job, new_leg, new_run, run_legs, run_legs_there, stop_in, told_of, told_turned, turned, untold_legs, with_leg, ◌>>=◌}
 use Rattle.board_decisions.proofs.Lists.{map-get}
-use Rattle.board_counters.specs.Changes.{leg_was, stop_in}
-use Rattle.board_counters.specs.Counters.{turned}
-use Rattle.board_counters.specs.Stopping.{is_told, legs_of_jobs, run_legs, run_legs_there, told_of, told_turned, untold_legs}
-use Rattle.status_table.specs.declared.change.LegChange.{LegChange}
-use Rattle.board_counters.specs.declared.stopping.RunLegs.{RunLegs}
 use Rattle.board_counters.proofs.Lists.{changed-none, map-changed, map-same, map-twice, turned-by}
 use Rattle.board_counters.proofs.Tallies.{in_job, in_run, there, turned_same}
 use Rattle.status_table.proofs.Accepting.{legs_counted}

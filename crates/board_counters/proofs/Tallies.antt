@@ -1,11 +1,6 @@
 -- The tallies of a board after a change.
 use Rattle.std.proofs.Common.{◌≡◌, ℕ, zero, suc, inl, inr, Bool, true, false, List, [], ◌∷◌, Option, Some, None, map, option_map, slice_get, length, ap, subst, sym, refl, ◌∙◌}
-use Rattle.status_table.specs.Words.{Board, Job, Leg, LegPlace, LegState, Run, changed, leg_after, leg_there, with_leg, ◌>>=◌}
-use Rattle.board_counters.specs.Changes.{CameTo, leg_was, retallied, state_in, state_of, state_there}
-use Rattle.board_counters.specs.Counters.{counts, counted, tally_of, tallies_of, turned, moved}
-use Rattle.status_table.specs.declared.change.LegChange.{LegChange}
-use Rattle.board_counters.specs.declared.tally.Tally.{Tally}
-use Rattle.board_counters.specs.declared.tally.Counter.{Counter}
+use Rattle.board_counters.specs.Words.{Board, CameTo, Counter, Job, Leg, LegChange, LegPlace, LegState, Run, Tally, changed, counted, counts, leg_after, leg_there, leg_was, moved, retallied, state_in, state_of, state_there, tallies_of, tally_of, turned, with_leg, ◌>>=◌}
 use Rattle.board_counters.proofs.Lists.{map-changed, changed-none, changed-same, count-changed}
 use Rattle.status_table.proofs.Lists.{length-changed, changed-cons}
 

@@ -3,11 +3,7 @@ use Rattle.std.proofs.Common.{◌≡◌, ◌≢◌, ℕ, zero, suc, ◌-◌, ◌
 use Rattle.std.proofs.lemmas.Bool.Decides.{nat_tests}
 use Rattle.std.proofs.lemmas.List.{length-append}
 use Rattle.std.proofs.lemmas.List.Sums.{sum_by-cons, count_by-le-length}
-use Rattle.status_table.specs.Words.{JobPlan, changed, holds_at}
-use Rattle.board_counters.specs.Changes.{needs_turned}
-use Rattle.board_counters.specs.Counters.{first_number, need_of, need_turned, open_among, turned}
-use Rattle.board_counters.specs.Dependents.{dependents_from, dependents_of, times_named}
-use Rattle.board_counters.specs.declared.need.Need.{Need}
+use Rattle.board_counters.specs.Words.{JobPlan, Need, changed, dependents_from, dependents_of, first_number, holds_at, need_of, need_turned, needs_turned, open_among, times_named, turned}
 use Rattle.status_table.proofs.Counts.{one}
 use Rattle.status_table.proofs.Lists.{changed-cons}
 

@@ -1,12 +1,7 @@
 -- What was changed and is taken back is as it was.
 use Rattle.std.proofs.Common.{◌≡◌, ℕ, zero, suc, ◌-◌, false, List, [], ◌∷◌, ◌++◌, Some, length, take, slice_get, length-append, ap, sym, refl, ◌∙◌, arith}
 use Rattle.std.proofs.Math.Seq.{take-append_seam}
-use Rattle.status_table.specs.Words.{Board, DoneStep, Job, JobPlace, JobState, Leg, LegPlace, LegState, Run, changed, job_state_set, job_there, leg_after, leg_state_set, leg_there, step_done, with_job, with_leg, with_run, ◌>>=◌}
-use Rattle.board_counters.specs.Changes.{front, job_state_of, job_state_there, leg_before, leg_was, run_after, run_before, run_was, state_of, state_there, step_taken}
-use Rattle.board_counters.specs.Undo.{board_before, undone}
-use Rattle.status_table.specs.declared.change.LegChange.{LegChange}
-use Rattle.board_counters.specs.declared.change.RunChange.{RunChange}
-use Rattle.board_counters.specs.declared.undo.Change.{Change}
+use Rattle.board_counters.specs.Words.{Board, Change, DoneStep, Job, JobPlace, JobState, Leg, LegChange, LegPlace, LegState, Run, RunChange, board_before, changed, front, job_state_of, job_state_set, job_state_there, job_there, leg_after, leg_before, leg_state_set, leg_there, leg_was, run_after, run_before, run_was, state_of, state_there, step_done, step_taken, undone, with_job, with_leg, with_run, ◌>>=◌}
 use Rattle.board_counters.proofs.Tallies.{in_job, in_run, there}
 use Rattle.status_table.proofs.Lists.{changed-cons}
 

@@ -8,3 +8,4 @@ pub mod Standing
 pub mod Stopping
 pub mod Track
 pub mod Undo
+pub mod Words

@@ -1,12 +1,8 @@
 //! Changes of a board in place, each of which gives what was there before.
 
 ghost use Rattle.std.specs.Prelude.{◌≡◌, IfOk, OnErr, OnOk, slice_get};
-ghost use Rattle.std.specs.Option.{option_copied};
-ghost use Rattle.board_decisions.specs.Numbered.{job_there, leg_there};
+ghost use Rattle.board_counters.specs.Words.{job_there, leg_after, leg_state_set, leg_there, option_copied, step_done, with_leg, with_run};
 ghost use Rattle.board_counters.specs.Changes as spec;
-ghost use Rattle.status_table.specs.Change.{with_leg, with_run};
-ghost use Rattle.status_table.specs.Row.{leg_state_set, step_done};
-ghost use Rattle.status_table.specs.Seen.{leg_after};
 
 use board_decisions::place::{JobPlace, LegPlace, item_at};
 use flow_model::{Board, DoneStep, Job, JobState, Leg, LegState, Run, RunState, Sequence, Text};

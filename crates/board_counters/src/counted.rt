@@ -1,13 +1,8 @@
 //! A plan in play with its counters, which each change of the board keeps.
 
 ghost use Rattle.std.specs.Prelude.{◌≡◌, true, ℕ, None, Some, IfOk, OnOk, OnErr, slice_get};
-ghost use Rattle.board_decisions.specs.Numbered.{job_there, leg_there};
+ghost use Rattle.board_counters.specs.Words.{job_there, leg_after, leg_there, needs_none, needs_there, run_legs as run_legs_of, run_tally as run_tally_of, run_tally_there, tally_of as tally_of_job, tally_there, with_leg, with_run};
 ghost use Rattle.board_counters.specs.Changes as spec;
-ghost use Rattle.board_counters.specs.Counters.{needs_none, needs_there, tally_of as tally_of_job, tally_there};
-ghost use Rattle.board_counters.specs.Standing.{run_tally as run_tally_of, run_tally_there};
-ghost use Rattle.board_counters.specs.Stopping.{run_legs as run_legs_of};
-ghost use Rattle.status_table.specs.Change.{with_leg, with_run};
-ghost use Rattle.status_table.specs.Seen.{leg_after};
 
 use crate::change::{
     RunChange, exchange_leg_at, exchange_run_at, exchange_state_at, job_state_there, make_room,
@@ -133,9 +128,7 @@ pub struct Counted {
 }
 
 impl Model for Counted {
-    ghost use Rattle.std.specs.Coded.{codes};
-    ghost use Rattle.flow_model.specs.Plain.{coded_plain};
-    ghost use Rattle.status_table.specs.Play.{Play};
+    ghost use Rattle.board_counters.specs.Words.{Play, coded_plain, codes};
 
     ghost Value = { Play };
 
@@ -143,29 +136,14 @@ impl Model for Counted {
 
     ghost view = { λ c. record { plan = c.plan; board = c.board } };
 
-    ghost use Rattle.board_counters.specs.Counted.{IsCounted};
+    ghost use Rattle.board_counters.specs.Words.{IsCounted};
 
     ghost invariant = { λ c. IsCounted c.plan c.board c.counts c.failing c.lasting };
 }
 
 impl Counted {
-    ghost use Rattle.flow_model.specs.Rules.{IsPlan};
-    ghost use Rattle.flow_model.specs.Sound.{SoundPlan};
-    ghost use Rattle.board_decisions.specs.Calls.{AreCallsOf};
-    ghost use Rattle.board_decisions.specs.Derived.{all_succeed, is_going, jobs_have_ended, needs_have_ended, run_result};
-    ghost use Rattle.board_decisions.specs.Place.{JobAt, job_at, job_place, leg_place};
-    ghost use Rattle.flow_model.specs.declared.board.Board.{Board};
-    ghost use Rattle.flow_model.specs.declared.board.Job.{Job};
-    ghost use Rattle.flow_model.specs.declared.board.Leg.{Leg as LegOf};
-    ghost use Rattle.board_counters.specs.Failing.{any_failed};
-    ghost use Rattle.flow_model.specs.declared.board.Run.{Run as RunOf};
-    ghost use Rattle.flow_model.specs.declared.plan.JobPlan.{JobPlan};
-    ghost use Rattle.flow_model.specs.declared.plan.RunPlan.{RunPlan};
-    ghost use Rattle.flow_model.specs.declared.plan.StepPlan.{StepPlan};
-    ghost use Rattle.board_counters.specs.Undo.{board_before};
-    ghost use Rattle.status_table.specs.InPlay.{InPlay};
+    ghost use Rattle.board_counters.specs.Words.{AreCallsOf, Board, InPlay, IsPlan, Job, JobAt, JobPlan, Leg as LegOf, Run as RunOf, RunPlan, SoundPlan, StepPlan, all_succeed, any_failed, board_before, is_going, job_at, job_place, jobs_have_ended, leg_place, needs_have_ended, new_play, run_result};
     ghost use Rattle.status_table.specs.Row as row;
-    ghost use Rattle.status_table.specs.Runs.{new_play};
 
     /// The plan with its board on which all is new.
     pub fn new(alloc: Global, plan: CheckedPlan) -> Result<Counted, AllocError>

@@ -2,11 +2,7 @@
 
 ghost use Rattle.std.specs.Prelude.{◌≡◌, ◌≤◌, IfOk, map, slice_get, sum_by};
 ghost use Rattle.board_counters.specs.Changes as spec;
-ghost use Rattle.board_counters.specs.Counters.{needs_of as needs_of_runs, tally_of as tally_of_job};
-ghost use Rattle.board_counters.specs.Dependents.{dependents_at as places_that_need};
-ghost use Rattle.board_counters.specs.Standing.{run_moved as run_moved_of, run_tally as run_tally_of, standing_read};
-ghost use Rattle.board_counters.specs.Stopping.{legs_of_jobs, untold_legs};
-ghost use Rattle.status_table.specs.Change.{changed};
+ghost use Rattle.board_counters.specs.Words.{changed, dependents_at as places_that_need, legs_of_jobs, needs_of as needs_of_runs, run_moved as run_moved_of, run_tally as run_tally_of, standing_read, tally_of as tally_of_job, untold_legs};
 
 use crate::counted::job_of;
 use crate::dependents::{Dependents, dependents_at};

@@ -2,9 +2,8 @@
 //! where it ends.
 
 ghost use Rattle.std.specs.Prelude.{◌≡◌, ◌++◌, ◌∷◌, [], IfOk, OnOk, map};
-ghost use Rattle.board_decisions.specs.Places.{run_sizes, sizes};
+ghost use Rattle.board_counters.specs.Words.{changed, run_sizes, sizes};
 ghost use Rattle.board_counters.specs.Dependents as spec;
-ghost use Rattle.status_table.specs.Change.{changed};
 
 use crate::need::first_number;
 use board_decisions::place::JobPlace;

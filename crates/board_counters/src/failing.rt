@@ -1,7 +1,7 @@
 //! Which legs have a done step that counts as a failure, so that no step is looked at again.
 
 ghost use Rattle.std.specs.Prelude.{◌≡◌, IfOk, map};
-ghost use Rattle.board_decisions.specs.Numbered.{leg_there};
+ghost use Rattle.board_counters.specs.Words.{leg_there};
 ghost use Rattle.board_counters.specs.Failing as spec;
 
 use board_decisions::derived::is_any_step_failed;

@@ -1,10 +1,8 @@
 //! How many of the jobs that a job needs are open.
 
 ghost use Rattle.std.specs.Prelude.{◌≡◌, IfOk, map};
-ghost use Rattle.board_decisions.specs.Derived.{holds_at};
-ghost use Rattle.board_counters.specs.Changes.{needs_turned};
+ghost use Rattle.board_counters.specs.Words.{changed, holds_at, needs_turned};
 ghost use Rattle.board_counters.specs.Counters as spec;
-ghost use Rattle.status_table.specs.Change.{changed};
 
 use crate::tally::{Tally, turned};
 use flow_model::{Job, JobPlan, JobState, Run, Sequence};

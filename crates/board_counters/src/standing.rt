@@ -1,7 +1,7 @@
 //! How the jobs of a run that is Going stand: whether they have ended by themselves, and their results.
 
 ghost use Rattle.std.specs.Prelude.{◌≡◌, map};
-ghost use Rattle.board_counters.specs.Counters.{tally_of, turned};
+ghost use Rattle.board_counters.specs.Words.{tally_of, turned};
 ghost use Rattle.board_counters.specs.Standing as spec;
 
 use crate::tally::{Tally, turned};

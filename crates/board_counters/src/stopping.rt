@@ -1,9 +1,8 @@
 //! How many legs the jobs of a run have together, and how many of them are told to stop.
 
 ghost use Rattle.std.specs.Prelude.{◌≡◌, ◌≤◌, IfOk, map, slice_get, sum_by};
-ghost use Rattle.board_counters.specs.Counters.{turned as turned_count};
+ghost use Rattle.board_counters.specs.Words.{changed};
 ghost use Rattle.board_counters.specs.Stopping as spec;
-ghost use Rattle.status_table.specs.Change.{changed};
 
 use crate::tally::turned;
 use flow_model::{Run, Sequence};

@@ -2,7 +2,7 @@
 
 ghost use Rattle.std.specs.Prelude.{◌≡◌, true};
 ghost use Rattle.board_counters.specs.Counters as spec;
-ghost use Rattle.board_counters.specs.declared.tally.Tally.{Tally as TallyOf};
+ghost use Rattle.board_counters.specs.Words.{Tally as TallyOf};
 
 use board_decisions::derived::{has_failed, is_ended, is_under_way, was_cancelled};
 use flow_model::{Job, Leg, LegState};

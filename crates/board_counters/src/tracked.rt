@@ -2,12 +2,8 @@
 
 ghost use Rattle.std.specs.Prelude.{◌≡◌, ◌≤◌, ◌+◌, ◌-◌, ◌++◌, ◌∷◌, [], None, IfOk, IfSome, OnOk, OnErr};
 ghost use Rattle.board_counters.specs.Changes as spec;
-ghost use Rattle.board_counters.specs.Undo.{only_before, undone};
-ghost use Rattle.flow_model.specs.declared.board.Board.{Board as BoardOf};
-ghost use Rattle.smallvec.specs.SmallVec.{HasRoomFor, small_vec_len};
-ghost use Rattle.status_table.specs.Change.{with_leg, with_run};
+ghost use Rattle.board_counters.specs.Words.{Board as BoardOf, HasRoomFor, leg_after, only_before, small_vec_len, undone, with_leg, with_run};
 ghost use Rattle.status_table.specs.Row as row;
-ghost use Rattle.status_table.specs.Seen.{leg_after};
 
 use crate::change::RunChange;
 use crate::counted::Counted;
@@ -73,16 +69,13 @@ pub struct Tracked {
 
 impl Model for Tracked {
     ghost use Rattle.std.specs.Prelude.{◌-◌};
-    ghost use Rattle.smallvec.specs.SmallVec.{small_vec_len};
-    ghost use Rattle.std.specs.Coded.{codes};
-    ghost use Rattle.board_counters.specs.Track.{Track};
-    ghost use Rattle.flow_model.specs.Plain.{coded_plain};
+    ghost use Rattle.board_counters.specs.Words.{Track, coded_plain, codes, small_vec_len};
 
     ghost Value = { Track };
 
     ghost coded = { Prim.hlevel (codes, coded_plain) };
 
-    ghost use Rattle.board_counters.specs.Undo.{undone};
+    ghost use Rattle.board_counters.specs.Words.{undone};
 
     ghost view = { λ t. record {
       plan = t.counted.plan;
@@ -93,10 +86,8 @@ impl Model for Tracked {
 }
 
 impl Tracked {
-    ghost use Rattle.board_counters.specs.Track.{play_of};
-    ghost use Rattle.flow_model.specs.declared.board.Board.{Board};
+    ghost use Rattle.board_counters.specs.Words.{Board, new_play, play_of};
     ghost use Rattle.std.specs.Prelude.{ℕ};
-    ghost use Rattle.status_table.specs.Runs.{new_play};
 
     /// The plan with its board on which all is new.
     pub fn new(alloc: Global, plan: CheckedPlan) -> Result<Tracked, AllocError>

@@ -1,21 +1,14 @@
 -- A board that is played as settled agrees with what is settled; and two boards of one plan that are finished, by one answer to each call,
 -- are the same but for the order of the ends.
 use Rattle.std.proofs.Common.{◌≡◌, ℕ, suc, ◌+◌, true, List, [], ◌∷◌, Option, Some, None, option_map, map, take, slice_get, ap, subst, sym, refl, ◌∙◌, arith, Bool, false, length}
-use Rattle.std.specs.List.{AllZip}
+use Rattle.board_settled.specs.Words.{Agrees, AllZip, Answers, Board, Entry, Finish, FinishesAsSettled, IsFree, IsPlan, IsSettled, Job, JobAgrees, JobIsSettled, JobPlan, JobShape, JobState, LeadsTo, Leg, LegState, NeedsPointBack, OnlyEndsDiffer, Outcome, Plan, PlaysAsSettled, RulesHold, Run, RunAgrees, RunIsSettled, RunPlan, RunShape, RunState, SettledJob, SettledLeg, SettledRun, Spot, StepCall, finished, is_closed, is_ended, is_open, job_settled, leg_count, leg_settled, legs_settled, needs_of, new_board, new_job, new_leg, new_run, run_settled, runs_from, settled, spot_at}
 use Rattle.std.proofs.lemmas.Bool.{true≢false}
 use Rattle.std.proofs.lemmas.Option.{slice_get-map}
-use Rattle.status_table.specs.Words.{Board, Entry, IsPlan, Job, JobShape, Leg, NeedsPointBack, Outcome, Plan, Run, RunPlan, RunShape, RunState, StepCall, finished, is_closed, new_board, new_job, new_leg, new_run, JobPlan, JobState, LegState, is_ended, is_open}
-use Rattle.board_settled.specs.Agrees.{JobAgrees, RunAgrees, Agrees, JobIsSettled, RunIsSettled, IsSettled, PlaysAsSettled, FinishesAsSettled, OnlyEndsDiffer}
-use Rattle.board_settled.specs.Free.{IsFree}
-use Rattle.board_settled.specs.Histories.{LeadsTo}
-use Rattle.board_settled.specs.Sees.{Spot}
-use Rattle.board_settled.specs.Settled.{Answers, SettledJob, SettledRun, job_settled, run_settled, leg_count, runs_from, settled, Finish, SettledLeg, leg_settled, spot_at, needs_of, legs_settled}
 use Rattle.status_table.proofs.Counts.{zip-left}
 use Rattle.status_table.proofs.Lawfulness.{new_lawful}
 use Rattle.status_table.proofs.Legal.{new_fits}
 use Rattle.status_table.proofs.Lists.{zip-length, all-get, zip-get}
 use Rattle.board_decisions.proofs.Lists.{same_some}
-use Rattle.flow_model.specs.Laws.{RulesHold}
 use Rattle.board_settled.proofs.Ends.{job_agrees, job_over, leg_agrees, leg_over}
 use Rattle.board_settled.proofs.Played.{Stands, fresh_leg, is_judged, LegPlayed, JobPlayedAt, JobOver, jobs_of, RunPlayed, Played, jobs_size, job_item, StateStands, JobPlayed}
 use Rattle.board_settled.proofs.Kept.{after_stands}

@@ -1,7 +1,6 @@
 -- What holds of each row of Begin: it is refused, or does what is decided of the next step.
 use Rattle.std.proofs.Common.{◌≡◌, ℕ, ◌==◌, Bool, true, false, Option, Some, Ok, Err, nat_le, if◌then◌else◌, refl, sym, subst}
-use Rattle.status_table.specs.Words.{Board, Event, LegAt, Plan, Row, StepPlan, begin_found, begin_leg, beginning, beginning_by, decided, idle_owner, leg_at, next_step, row, step_decision}
-use Rattle.status_table.specs.declared.fault.EventFault.{EventFault}
+use Rattle.board_settled.specs.Words.{Board, Event, EventFault, LegAt, Plan, Row, StepPlan, begin_found, begin_leg, beginning, beginning_by, decided, idle_owner, leg_at, next_step, row, step_decision}
 
 -- what holds of both sides of a choice
 pub either : {A : Type 0} (C : A → Type 0) (c : Bool) (x y : A) → C x → C y → C (if c then x else y)

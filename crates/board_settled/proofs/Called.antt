@@ -1,8 +1,6 @@
 -- What the call of a step is made of.
 use Rattle.std.proofs.Common.{◌≡◌, ℕ, suc, Bool, true, false, List, [], ◌∷◌, map, Option, Some, None, Result, Ok, Err, length, nat_le, refl, sym, ap, subst, ◌∙◌}
-use Rattle.status_table.specs.Words.{Ascends, Board, CallWork, Contexts, DoneStep, Env, EnvHasItsNames, IfCalled, LegAt, LevelsStayInOrder, Plan, StepCall, StepPlan, TextPlace, ValueFault, Work, begin_found, begin_leg, called_if, condition_value, decided, directory_value, env_value, flow_env, job_env, laid_over, leg_at, leg_env, leg_status, next_step, or_below, overlaid, seen_from, set_over, step_decision, step_env, text_text, then_value, value_at, work_value}
-use Rattle.status_table.specs.declared.fault.EventFault.{EventFault}
-use Rattle.board_settled.specs.CallLaws.{last_set, SetInOrder, StepInOrder, WorkInOrder, PlanInOrder, AskedInOrder, CallInOrder, CallsAreInOrder, MostSpecificIsGiven, CallsAreMostSpecific}
+use Rattle.board_settled.specs.Words.{Ascends, AskedInOrder, Board, CallInOrder, CallWork, CallsAreInOrder, CallsAreMostSpecific, Contexts, DoneStep, Env, EnvHasItsNames, EventFault, IfCalled, LegAt, LevelsStayInOrder, MostSpecificIsGiven, Plan, PlanInOrder, SetInOrder, StepCall, StepInOrder, StepPlan, TextPlace, ValueFault, Work, WorkInOrder, begin_found, begin_leg, called_if, condition_value, decided, directory_value, env_value, flow_env, job_env, laid_over, last_set, leg_at, leg_env, leg_status, next_step, or_below, overlaid, seen_from, set_over, step_decision, step_env, text_text, then_value, value_at, work_value}
 use Rattle.status_table.proofs.Found.{leg_stands}
 use Rattle.board_decisions.proofs.Lists.{same_some}
 use Rattle.board_settled.proofs.Begins.{begins, by_decision, either}

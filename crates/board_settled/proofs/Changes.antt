@@ -2,8 +2,7 @@
 use Rattle.std.proofs.Common.{◌≡◌, ◌≢◌, ℕ, ◌+◌, ◌-◌, true, false, List, Option, Some, None, take, slice_get, ap, subst, sym, refl, ◌∙◌}
 use Rattle.std.proofs.lemmas.Bool.{true≢false}
 use Rattle.std.proofs.lemmas.Option.{slice_get_within}
-use Rattle.status_table.specs.Words.{Board, HasShape, Job, JobPlan, Leg, LegPlace, Outcome, Plan, Run, RunPlan, RunState, RunStays, Stays, StepCall, changed, is_closed, is_open, leg_place, needs_have_ended, with_leg}
-use Rattle.board_settled.specs.Settled.{Answers, SettledJob, spot_at, needs_of, run_after}
+use Rattle.board_settled.specs.Words.{Answers, Board, HasShape, Job, JobPlan, Leg, LegPlace, Outcome, Plan, Run, RunPlan, RunState, RunStays, SettledJob, Stays, StepCall, changed, is_closed, is_open, leg_place, needs_have_ended, needs_of, run_after, spot_at, with_leg}
 use Rattle.status_table.proofs.Ended.{needs-later}
 use Rattle.status_table.proofs.Lists.{changed-there, zip-get}
 use Rattle.board_decisions.proofs.Lists.{same_some}

@@ -1,12 +1,8 @@
 -- What a job comes to that is settled on a board: the result and the outputs that it shows are those that are settled.
 use Rattle.std.proofs.Common.{◌≡◌, ℕ, ◌&&◌, ◌||◌, true, false, List, [], ◌∷◌, Option, Some, option_map, map, slice_get, ap, sym, subst, refl, ◌∙◌}
-use Rattle.std.specs.List.{list_any, AllZip}
+use Rattle.board_settled.specs.Words.{AllZip, Board, Env, Finish, Job, JobFits, JobIsSettled, JobPlace, JobPlan, JobState, Leg, LegIsSettled, LegState, Plan, Run, RunPlan, SettledJob, SettledLeg, all_given, ended_in_order, fails, given_by, goes_rightly, has_failed, is_cancelled, is_ended, is_fresh, is_open, job_outputs, job_result, laid_over, legs_come_to, list_any, opened, outputs_of_job, overlaid, result_by, result_of, was_cancelled, worst}
 use Rattle.std.proofs.lemmas.Bool.{true≢false}
-use Rattle.status_table.specs.Words.{Board, Env, Job, JobFits, JobPlace, JobPlan, JobState, Leg, LegState, Plan, Run, RunPlan, goes_rightly, has_failed, is_cancelled, is_ended, is_fresh, is_open, job_outputs, job_result, laid_over, overlaid, result_by, was_cancelled}
 use Rattle.board_settled.proofs.Outputs.{none_ended, all_ended, JobThere}
-use Rattle.board_settled.specs.Quiet.{ended_in_order}
-use Rattle.board_settled.specs.Agrees.{LegIsSettled, JobIsSettled}
-use Rattle.board_settled.specs.Settled.{Finish, SettledLeg, SettledJob, opened, all_given, fails, worst, legs_come_to, result_of, given_by, outputs_of_job}
 use Rattle.status_table.proofs.Counts.{zip-left}
 use Rattle.status_table.proofs.Lists.{all-get}
 

@@ -1,10 +1,6 @@
 -- What the texts of a plan decide, seen in the rows.
 use Rattle.std.proofs.Common.{◌≡◌, ℕ, ◌==◌, Bool, true, false, not, List, Option, Some, None, Result, Ok, Err, nat_le, if◌then◌else◌, refl, sym, ap, subst, ◌∙◌}
-use Rattle.std.specs.List.{list_any}
-use Rattle.status_table.specs.Words.{Answer, Beginning, Board, DoneStep, Env, LegAt, Outcome, StepCall, StepPlan, TextPlace, ValueFault, WaitsForSuccess, answered_step, begin_leg, calling_owner, calls, conclusion_of, condition_value, decided, end_found, end_leg, ending_by, failed_step, failure_of, faults, is_failure, is_stopping, is_well_formed, leg_status, next_step, outcome_of, seen_from, skipped_step, skips, status_of, step_decision, step_tolerates}
-use Rattle.expr_value.specs.Functions.{is_success}
-use Rattle.status_table.specs.declared.fault.EventFault.{EventFault}
-use Rattle.board_settled.specs.DecisionLaws.{NamesNoStatus, HasFailedStep, CallsNothing, NoCallAfterFailure, IsPassedOver, Concludes, OnlyFailuresArePassedOver}
+use Rattle.board_settled.specs.Words.{Answer, Beginning, Board, CallsNothing, Concludes, DoneStep, Env, EventFault, HasFailedStep, IsPassedOver, LegAt, NamesNoStatus, NoCallAfterFailure, OnlyFailuresArePassedOver, Outcome, StepCall, StepPlan, TextPlace, ValueFault, WaitsForSuccess, answered_step, begin_leg, calling_owner, calls, conclusion_of, condition_value, decided, end_found, end_leg, ending_by, failed_step, failure_of, faults, is_failure, is_stopping, is_success, is_well_formed, leg_status, list_any, next_step, outcome_of, seen_from, skipped_step, skips, status_of, step_decision, step_tolerates}
 use Rattle.board_decisions.proofs.Lists.{same_some}
 use Rattle.board_settled.proofs.Begins.{begins, either}
 use Rattle.board_settled.proofs.Called.{asked}

@@ -1,15 +1,9 @@
 -- What has ended on a board beside what is settled: legs, and jobs with their results and outputs.
 use Rattle.std.proofs.Common.{◌≡◌, ℕ, suc, ◌+◌, ◌≤◌, Bool, true, false, List, [], ◌∷◌, ◌++◌, Option, Some, None, length, take, drop, map, slice_get, inl, inr, append-nil, append_assoc, ap, subst, sym, refl, ◌∙◌, arith}
-use Rattle.std.specs.List.{AllZip}
+use Rattle.board_settled.specs.Words.{AllZip, Answers, Board, DoneStep, EndOnce, Finish, Job, JobAgrees, JobIsFree, JobIsSettled, JobPlace, JobPlan, JobState, Leg, LegAgrees, LegIsSettled, LegState, Outcome, Plain, Plan, Run, RunPlan, SettledJob, SettledLeg, Sight, Spot, StepCall, StepPlan, TextPlace, finish_of, is_closed, is_ended, is_open, is_shut, job_has_ended, job_outputs, job_settled, leg_has_ended, leg_settled, leg_variables, legs_from, legs_settled, needs_of, next_done, or_none, outputs_of_leg, outputs_value, overlaid, seen_after, spot_at, steps_from, steps_then}
 use Rattle.std.proofs.Math.Seq.{take-append_seam}
 use Rattle.std.proofs.lemmas.Bool.{true≢false}
 use Rattle.std.proofs.lemmas.List.{drop_all}
-use Rattle.status_table.specs.Words.{Board, DoneStep, EndOnce, Job, JobPlace, JobPlan, JobState, Leg, LegState, Outcome, Plain, Plan, Run, RunPlan, StepCall, StepPlan, TextPlace, is_closed, is_ended, is_open, is_shut, job_has_ended, job_outputs, leg_has_ended, or_none, outputs_value, overlaid}
-use Rattle.board_settled.specs.Agrees.{JobAgrees, JobIsSettled, LegAgrees, LegIsSettled}
-use Rattle.board_settled.specs.Decided.{leg_variables, outputs_of_leg}
-use Rattle.board_settled.specs.Free.{JobIsFree}
-use Rattle.board_settled.specs.Sees.{Spot, Sight}
-use Rattle.board_settled.specs.Settled.{Answers, Finish, SettledLeg, SettledJob, next_done, seen_after, steps_from, steps_then, finish_of, leg_settled, spot_at, legs_from, legs_settled, needs_of, job_settled}
 use Rattle.flow_model.proofs.Places.{slice_get_there}
 use Rattle.status_table.proofs.Lists.{all-get}
 use Rattle.board_settled.proofs.Comes.{JobComes, comes_by}

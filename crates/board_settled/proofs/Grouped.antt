@@ -1,13 +1,12 @@
 -- The groups as they are kept by names go with the board through each legal list of entries, and their names have no letter A to Z.
 use Rattle.std.proofs.Common.{◌≡◌, List, [], ◌∷◌, Some, Ok, Err, refl, subst, ℕ, Bool, true, false, cond, inl, inr, Option, None, Result, Ordering, Less, Equal, Greater, sym, ◌∙◌}
-use Rattle.status_table.specs.Words.{Board, Content, EntersFromOutside, Entry, IsPlan, KeptAsShown, Lawful, Plan, Row, Stays, after, after_event, after_from, new_board, released, row, then_after, withdrawn, Entrance, Event, Held, Member, Standing, ValueFault, after_at, after_enter, apart, asked, each_held, fold, holding, left, leg_asked, leg_at, leg_entrance, leg_left, leg_standing, opened, run_at, run_entrance, run_left, run_opened, run_standing, value_at, waiting, with_held, with_pair}
-use Rattle.flow_model.specs.Laws.{RulesHold}
+use Rattle.board_settled.specs.Words.{AsksNamed, Board, Content, EntersFromOutside, Entrance, Entry, Event, Held, IsPlan, KeptAsShown, Lawful, Member, NamesAreFolded, OneHolderWhateverTheCase, Plan, Row, RulesHold, Standing, Stays, ValueFault, after, after_at, after_enter, after_event, after_from, apart, asked, each_held, fold, groups_after, groups_from, holding, is_eq, is_own, left, leg_asked, leg_at, leg_entrance, leg_left, leg_standing, match_ordering, nat_cmp, new_board, released, row, run_at, run_entrance, run_left, run_opened, run_standing, slice_cmp, then_after, then_groups, value_at, waiting, with_held, with_pair, withdrawn}
+use Rattle.status_table.specs.Words.{opened}
 use Rattle.group_admission.proofs.Entering.{first_holds, next_displaces, own_run_changes_nothing, Ascends-after_enter}
 use Rattle.group_admission.proofs.Leaving.{release_passes_on, withdraw_leaves_holder}
 use Rattle.group_admission.proofs.Lookups.{Ascends-each_held}
 use Rattle.group_admission.proofs.Nowhere.{nowhere_is_no_group}
 use Rattle.group_admission.proofs.Once.{once_stays}
-use Rattle.board_settled.specs.Grouped.{then_groups, groups_from, groups_after}
 use Rattle.board_decisions.proofs.Lists.{same_some, no_some}
 use Rattle.status_table.proofs.Entering.{Leads}
 use Rattle.status_table.proofs.Grouped.{GroupLaws, enters_from_outside, event_kept, new_kept}
@@ -16,16 +15,11 @@ use Rattle.status_table.proofs.Lawfulness.{after_reaches, legal_lawful, new_lawf
 use Rattle.status_table.proofs.Legal.{after_fits, new_fits}
 use Rattle.status_table.proofs.Rows.{row_leads}
 use Rattle.status_table.proofs.Turns.{Fits}
-use Rattle.std.specs.Cmp.Lexicographic.{slice_cmp}
-use Rattle.std.specs.Ordering.{nat_cmp, is_eq, match_ordering}
-use Rattle.flat_board.specs.Index.{AsksNamed}
 use Rattle.flat_board.proofs.Named.{run_asks, leg_asks}
-use Rattle.group_admission.specs.Content.{is_own}
 use Rattle.board_settled.proofs.Begins.{either}
 use Rattle.board_settled.proofs.Pairs.{name_is}
 use Rattle.std.proofs.lemmas.Option.{option_and_then_some}
 use Rattle.status_table.proofs.Counts.{map-some}
-use Rattle.board_settled.specs.Groups.{NamesAreFolded, OneHolderWhateverTheCase}
 
 -- the laws of the groups by names
 group_laws : GroupLaws

@@ -1,13 +1,9 @@
 -- A job and its legs on a board beside what is settled of them.
 use Rattle.std.proofs.Common.{◌≡◌, ◌↔◌, ℕ, suc, ◌+◌, ◌<◌, Bool, true, false, List, ◌∷◌, Result, Ok, length, drop, get_or, if◌then◌else◌, ap, subst, subst₂, sym, refl, ◌∙◌, arith}
-use Rattle.std.specs.List.{AllZip}
-use Rattle.status_table.specs.Words.{Job, JobAt, JobState, Leg, Outcome, Status, ValueFault, ancestors_status, job_condition, job_results, job_status, judged_state, needs_value}
-use Rattle.board_settled.specs.Alone.{SeesSettled, IsOpened, planned}
+use Rattle.board_settled.specs.Words.{AllZip, Answers, IsOpened, Job, JobAt, JobIsSettled, JobState, Leg, LegIsSettled, Outcome, SeesSettled, SettledJob, SettledLeg, Status, ValueFault, ancestors_status, condition_after, job_condition, job_results, job_settled, job_status, judged, judged_state, leg_settled, legs_from, legs_settled, needs_of, needs_value, opened, planned, shut, status_after, unsettled}
 use Rattle.flow_model.proofs.Conversions.{drop-next}
 use Rattle.flow_model.proofs.Places.{slice_get_there}
 use Rattle.board_settled.proofs.Loops.{zip-first}
-use Rattle.board_settled.specs.Agrees.{LegIsSettled, JobIsSettled}
-use Rattle.board_settled.specs.Settled.{Answers, SettledLeg, SettledJob, unsettled, shut, opened, leg_settled, legs_from, legs_settled, needs_of, status_after, condition_after, judged, job_settled}
 use Rattle.board_settled.proofs.Played.{StateStands}
 use Rattle.board_settled.proofs.Seen.{job_condition_is}
 use Rattle.status_table.proofs.Standings.{drop_at}

@@ -1,9 +1,6 @@
 -- Each list of entries leads to a board that is played as settled.
 use Rattle.std.proofs.Common.{◌≡◌, ℕ, suc, List, [], ◌∷◌, Option, Some, None, Ok, Err, take, slice_get, nat_le, subst, refl}
-use Rattle.status_table.specs.Words.{Board, Entry, Event, Plan, Row, StepCall, after_from, call_after, call_from, event_row, job_at, leg_at, row, run_at, then_after, then_call}
-use Rattle.board_settled.specs.Histories.{IsAnswered}
-use Rattle.board_settled.specs.Settled.{Answers}
-use Rattle.status_table.specs.declared.fault.EventFault.{EventFault}
+use Rattle.board_settled.specs.Words.{Answers, Board, Entry, Event, EventFault, IsAnswered, Plan, Row, StepCall, after_from, call_after, call_from, event_row, job_at, leg_at, row, run_at, then_after, then_call}
 use Rattle.status_table.specs.Row as rows
 use Rattle.status_table.proofs.Entering.{Leads}
 use Rattle.status_table.proofs.Keeps.{Keeps, row_keeps}

@@ -3,11 +3,7 @@ use Rattle.std.proofs.Common.{◌≡◌, ◌≢◌, ℕ, ◌+◌, ◌≤◌, ◌
 use Rattle.std.proofs.lemmas.Bool.{true≢false, leb-true}
 use Rattle.std.proofs.lemmas.Bool.Decides.{nat_tests}
 use Rattle.std.proofs.lemmas.List.{length-append}
-use Rattle.status_table.specs.Words.{Answer, Board, DoneStep, Entrance, Event, JobShape, Leg, LegAt, LegState, Member, Outcome, Plan, Reply, Row, RunShape, Stays, StepCall, StepPlan, ValueFault, What, admitted, call_after, dropped, has_failed, has_room, holding, is_ended, is_failure, is_fresh, is_full, is_going, is_open, is_stopping, is_under_way, is_untaken, is_well_formed, job_of, job_tolerates, leaves, leg_at, leg_entrance, leg_outputs, leg_result, leg_standing, moved, needs_value, open_calls, step_decision, with_leg}
-use Rattle.board_settled.specs.Alone.{step_comes}
-use Rattle.board_settled.specs.Sees.{Spot}
-use Rattle.board_settled.specs.Settled.{Answers, counts, next_call, next_done, steps_from, finish_of, spot_at, needs_of, SettledJob}
-use Rattle.status_table.specs.declared.fault.EventFault.{EventFault}
+use Rattle.board_settled.specs.Words.{Answer, Answers, Board, DoneStep, Entrance, Event, EventFault, JobIsFree, JobShape, Leg, LegAt, LegState, Member, Outcome, Plan, Reply, Row, RunShape, SettledJob, Spot, Stays, StepCall, StepPlan, ValueFault, What, admitted, call_after, counts, dropped, finish_of, has_failed, has_room, holding, is_ended, is_failure, is_fresh, is_full, is_going, is_open, is_stopping, is_under_way, is_untaken, is_well_formed, job_of, job_tolerates, leaves, leg_at, leg_entrance, leg_outputs, leg_result, leg_standing, list_any, moved, needs_of, needs_value, next_call, next_done, open_calls, spot_at, step_comes, step_decision, steps_from, with_leg}
 use Rattle.status_table.specs.Row as rows
 use Rattle.status_table.proofs.Found.{LegStands, leg_stands}
 use Rattle.status_table.proofs.LegRows.{holding-live, idle-holds}
@@ -21,8 +17,6 @@ use Rattle.board_settled.proofs.Played.{Stands, IsFit, CallStands, InCall, LegPl
 use Rattle.board_settled.proofs.LegSteps.{and-none, comes_next, step_after}
 use Rattle.board_settled.proofs.Numbers.{before_run, before_job, number_at}
 use Rattle.board_settled.proofs.Seen.{spot_of, call_is, finish_is}
-use Rattle.std.specs.List.{list_any}
-use Rattle.board_settled.specs.Free.{JobIsFree}
 use Rattle.board_settled.proofs.SettledNeeds.{needs_settled}
 
 leg_board : (p : Plan) (b : Board) (n : ℕ) (at : LegAt) → leg_at p b n ≡ Some at → at.board ≡ b

@@ -1,11 +1,7 @@
 -- The next step of a leg by itself, and its end, are those that are settled.
 use Rattle.std.proofs.Common.{◌≡◌, ◌↔◌, ℕ, ◌+◌, ◌<◌, ◌==◌, ◌&&◌, Bool, true, false, List, [], ◌∷◌, ◌++◌, Option, Some, None, Result, Ok, Err, option_map, length, drop, slice_get, if◌then◌else◌, ap, sym, subst, refl, ◌∙◌, arith}
 use Rattle.std.proofs.lemmas.Bool.Decides.{nat_tests}
-use Rattle.status_table.specs.Words.{Answer, DoneStep, Env, JobAt, Leg, LegAt, LegState, Outcome, StepCall, StepPlan, ValueFault, answered_step, conclusion_of, failure_of, is_failure, is_stopping, job_tolerates, leg_outputs, leg_result, next_step, outcome_of, outputs_of, set_by, step_decision}
-use Rattle.board_settled.specs.Alone.{leg_on, planned, IsAlone, IsIdle, EndsAs, step_comes, next_comes, StepsCome}
-use Rattle.board_settled.specs.Agrees.{LegIsSettled}
-use Rattle.board_settled.specs.Sees.{Spot}
-use Rattle.board_settled.specs.Settled.{Answers, Finish, SettledLeg, counts, concludes, answered, ends_so, step_by, next_done, steps_then, steps_from, finish_of, leg_after, leg_settled}
+use Rattle.board_settled.specs.Words.{Answer, Answers, DoneStep, EndsAs, Env, Finish, IsAlone, IsIdle, JobAt, Leg, LegAt, LegIsSettled, LegState, Outcome, SettledLeg, Spot, StepCall, StepPlan, StepsCome, ValueFault, answered, answered_step, concludes, conclusion_of, counts, ends_so, failure_of, finish_of, is_failure, is_stopping, job_tolerates, leg_after, leg_on, leg_outputs, leg_result, leg_settled, next_comes, next_done, next_step, outcome_of, outputs_of, planned, set_by, step_by, step_comes, step_decision, steps_from, steps_then}
 use Rattle.board_settled.proofs.Seen.{spot_of, call_is, failure_is, finish_is}
 use Rattle.board_decisions.proofs.Lists.{same_some, no_some}
 use Rattle.status_table.proofs.Standings.{drop_at}

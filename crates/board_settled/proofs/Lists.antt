@@ -1,11 +1,10 @@
 -- Lists of which something holds at each place, and lists made of others.
 use Rattle.std.proofs.Common.{◌≡◌, ◌≢◌, ℕ, zero, suc, ◌<◌, ◌==◌, ◌||◌, Bool, true, false, List, [], ◌∷◌, Option, Some, None, option_map, length, map, take, slice_get, count_by, replicate, cond, inl, inr, ap, subst₂, sym, refl, ◌∙◌, arith}
-use Rattle.std.specs.List.{list_all, list_any, filter_map, cons_option, AllZip}
+use Rattle.board_settled.specs.Words.{AllZip, changed, cons_option, filter_map, list_all, list_any}
 use Rattle.std.proofs.lemmas.Bool.{cases_eq}
 use Rattle.std.proofs.lemmas.Bool.Decides.{nat_tests}
 use Rattle.std.proofs.lemmas.List.Sums.{sum_by-cons}
 use Rattle.std.proofs.lemmas.Option.{slice_get-map}
-use Rattle.status_table.specs.Words.{changed}
 use Rattle.status_table.proofs.Counts.{map-some}
 use Rattle.status_table.proofs.Lists.{changed-there, changed-elsewhere, zip-get, zip-length}
 use Rattle.board_decisions.proofs.Lists.{and-left, and-right, and-both, same_some}

@@ -1,6 +1,6 @@
 -- Loops that hold one item after the other against what is settled: those that are left are settled where all are.
 use Rattle.std.proofs.Common.{◌≡◌, ◌↔◌, false, IsTrue, List, ◌∷◌, sym, subst₂}
-use Rattle.std.specs.List.{AllZip}
+use Rattle.board_settled.specs.Words.{AllZip}
 use Rattle.std.proofs.lemmas.Bool.{true≢false}
 
 -- one holds where another does, which holds where a third does

@@ -1,10 +1,7 @@
 -- What the contexts `needs` and `steps` and the outputs of a job give, name by name; and what a leg sees where no step of it that is done
 -- set anything.
 use Rattle.std.proofs.Common.{◌≡◌, ℕ, List, [], ◌∷◌, map, Result, Ok, Err, refl, ap, ◌∙◌, zero, suc, Option, Some, None, sym, ◌-◌}
-use Rattle.std.specs.List.{AllByRecursion, filter_map, slice_get, zip}
-use Rattle.status_table.specs.Words.{Ascends, Env, Leg, ValueFault, ended_legs, job_env, job_outputs, laid_over, leg_env, or_below, overlaid, set_over, then_value, value_at, DoneStep, HaveDistinctNames, LegAt, Plain, StepPlan, done_value, id_pair, step_pair, steps_value, Board, Job, JobAt, JobPlace, JobPlan, Run, RunPlan, first_number, job_beside, need_pair, need_value, needed_job, needs_value, ◌>>=◌}
-use Rattle.board_settled.specs.Contexts.{LastLegWins, last_giving, IsDone, StepsAreDone, IsNeeded, NeedsAreDirect}
-use Rattle.board_settled.specs.Variables.{NothingSetIsTheJobs}
+use Rattle.board_settled.specs.Words.{AllByRecursion, Ascends, Board, DoneStep, Env, HaveDistinctNames, IsDone, IsNeeded, Job, JobAt, JobPlace, JobPlan, LastLegWins, Leg, LegAt, NeedsAreDirect, NothingSetIsTheJobs, Plain, Run, RunPlan, StepPlan, StepsAreDone, ValueFault, done_value, ended_legs, filter_map, first_number, id_pair, job_beside, job_env, job_outputs, laid_over, last_giving, leg_env, need_pair, need_value, needed_job, needs_value, or_below, overlaid, set_over, slice_get, step_pair, steps_value, then_value, value_at, zip, ◌>>=◌}
 use Rattle.board_settled.proofs.Pairs.{below_through, none_below, nothing-laid, one_found, IsIn, in_kept, kept_in, laid_exactly}
 use Rattle.flow_model.proofs.Places.{same_Some}
 use Rattle.board_decisions.proofs.Lists.{map-get}

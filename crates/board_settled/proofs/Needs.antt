@@ -1,13 +1,11 @@
 -- What a job looks at, where each job that it needs, and each that one of these needs, comes to what is settled: its context `needs`
 -- and its status are as settled.
 use Rattle.std.proofs.Common.{◌≡◌, ℕ, zero, suc, ◌-◌, ◌<◌, ◌≤◌, ◌||◌, Bool, true, false, not, List, [], ◌∷◌, Option, Some, option_map, length, map, take, slice_get, nat_lt, is_some, ap, sym, ◌∙◌, refl, arith}
-use Rattle.std.specs.List.{list_all}
+use Rattle.board_settled.specs.Words.{Board, Job, JobAt, JobPlan, Outcome, Plain, Run, RunPlan, SeesSettled, SettledJob, all_given, ancestors_status, any_ancestor, first_in_run, has_result, holds, holds_at, is_cancelled, is_failure, job_result, job_results, jobs_come_to, laid_over, list_all, need_at, need_pair, needed_job, needs_at, needs_given, needs_of, needs_value, object, places_needed, result_of, result_passes, run_result, some_ancestor, status_after, status_by, worst}
 use Rattle.std.proofs.lemmas.Bool.{leb-true}
 use Rattle.std.proofs.lemmas.List.{length-take-le, length-map}
 use Rattle.std.proofs.lemmas.Option.{slice_get-map, slice_get_within}
-use Rattle.status_table.specs.Words.{Board, Job, JobAt, JobPlan, Outcome, Plain, Run, RunPlan, ancestors_status, any_ancestor, holds, holds_at, is_cancelled, is_failure, is_success, job_result, run_result, job_results, laid_over, need_pair, needed_job, needs_at, needs_value, object, places_needed, some_ancestor, status_by}
-use Rattle.board_settled.specs.Alone.{SeesSettled}
-use Rattle.board_settled.specs.Settled.{SettledJob, all_given, jobs_come_to, worst, result_of, first_in_run, need_at, needs_of, has_result, result_passes, needs_given, status_after}
+use Rattle.status_table.specs.Words.{is_success}
 use Rattle.board_settled.proofs.Comes.{JobComes}
 use Rattle.status_table.proofs.Counts.{all-weaker}
 use Rattle.board_settled.proofs.Lists.{get-take, any-where, any-map, map-filter_map, filter_map-where}

@@ -1,10 +1,8 @@
 -- The numbers of legs by their places: so many as there are legs before them in the plan.
 use Rattle.std.proofs.Common.{◌≡◌, ℕ, zero, suc, ◌+◌, ◌-◌, ◌<◌, ◌≤◌, Bool, true, false, List, [], ◌∷◌, Option, Some, None, Result, Ok, Err, length, slice_get, nat_lt, if◌then◌else◌, ap, subst, sym, refl, ◌∙◌, arith}
-use Rattle.std.specs.List.{flat_map, AllZip}
+use Rattle.board_settled.specs.Words.{AllZip, Board, HasShape, Job, JobPlan, JobShape, LegPlace, Plan, Run, RunPlan, RunShape, else_from, flat_map, leg_count, leg_in_jobs, leg_place, leg_place_from}
 use Rattle.std.proofs.lemmas.Bool.Decides.{nat_tests}
 use Rattle.std.proofs.lemmas.List.{length-append}
-use Rattle.status_table.specs.Words.{Board, HasShape, Job, JobPlan, JobShape, LegPlace, Plan, Run, RunPlan, RunShape, else_from, leg_in_jobs, leg_place, leg_place_from}
-use Rattle.board_settled.specs.Settled.{leg_count}
 use Rattle.board_decisions.proofs.Lists.{same_some, no_some}
 
 -- how many legs stand in the first jobs

@@ -1,10 +1,9 @@
 -- The outputs of a job on a board: where no order of its legs is told by them, and where its legs stand among the ends in the order of
 -- their numbers.
 use Rattle.std.proofs.Common.{◌≡◌, ◌≢◌, ℕ, ◌+◌, ◌==◌, ◌&&◌, Bool, true, false, List, [], ◌∷◌, Option, Some, None, length, map, slice_get, count_by, replicate, if◌then◌else◌, ap, sym, refl, ◌∙◌, arith, zero, suc, ◌-◌, ◌<◌, ◌≤◌, ◌⊎◌, inl, inr, ◌++◌, option_map, take, take_all, add-one}
-use Rattle.std.specs.List.{filter_map, filter, flat_map, cons_option}
+use Rattle.board_settled.specs.Words.{Board, EndOnce, HasShape, Job, JobPlace, Leg, LegPlace, Plan, Run, RunPlan, board_legs, cons_option, ended_in_order, filter, filter_map, flat_map, has_ended_at, holds, is_ended, job_leg, job_outputs, leg_of_job, leg_place, leg_there, numbered_leg, numbers, overlaid, quiet_run, times_ended}
 use Rattle.std.proofs.lemmas.Bool.Decides.{nat_tests}
 use Rattle.std.proofs.lemmas.Option.{slice_get_within}
-use Rattle.status_table.specs.Words.{Board, EndOnce, HasShape, Job, JobPlace, Leg, LegPlace, Plan, Run, RunPlan, board_legs, is_ended, job_leg, job_outputs, leg_of_job, leg_place, leg_there, numbered_leg, overlaid, times_ended, holds, numbers}
 use Rattle.status_table.proofs.Lists.{bind-some}
 use Rattle.board_decisions.proofs.Lists.{and-left, and-right, no_some}
 use Rattle.status_table.proofs.Numbers.{legs_are_numbered}
@@ -14,7 +13,6 @@ use Rattle.board_settled.proofs.Numbers.{before_run, before_job, leg_spot, numbe
 use Rattle.std.proofs.lemmas.Bool.{cases_lt}
 use Rattle.std.proofs.lemmas.List.Elements.{filter-append, filter_map-append}
 use Rattle.flow_model.proofs.Places.{slice_get_there}
-use Rattle.board_settled.specs.Quiet.{has_ended_at, ended_in_order, quiet_run}
 
 -- a job of a run of a plan stands on a board
 pub record JobThere (p : Plan) (b : Board) (place : JobPlace) (plan : RunPlan) (run : Run) (job : Job) : Type 0 where

@@ -3,11 +3,8 @@ use Rattle.std.proofs.Common.{◌≡◌, ◌↔◌, ℕ, zero, suc, Bool, true, 
 use Rattle.std.proofs.lemmas.Bool.{true≢false}
 use Rattle.std.proofs.lemmas.Map.Text.{is_eq-slice_cmp}
 use Rattle.std.proofs.lemmas.Slice.Eq.{bytes_eq-Decides}
-use Rattle.std.specs.Cmp.Lexicographic.{slice_cmp}
-use Rattle.std.specs.List.{filter_map, cons_option, slice_get}
+use Rattle.board_settled.specs.Words.{Ascends, Env, cons_option, filter_map, is_eq, laid_over, nat_cmp, or_below, overlaid, slice_cmp, slice_get, value_at, with_pair}
 use Rattle.std.specs.List.Sorted.{IsStrictlySortedBy}
-use Rattle.std.specs.Ordering.{nat_cmp, is_eq}
-use Rattle.status_table.specs.Words.{Ascends, Env, laid_over, or_below, overlaid, value_at, with_pair}
 use Rattle.flow_model.proofs.Lookups.{found_other, found_same, none_below as none_under}
 use Rattle.flow_model.proofs.Places.{same_Some}
 

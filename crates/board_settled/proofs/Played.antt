@@ -1,11 +1,8 @@
 -- What holds of each run, job and leg in play beside what is settled, and what is known of their plan.
 use Rattle.std.proofs.Common.{◌≡◌, ℕ, zero, suc, ◌+◌, ◌-◌, Bool, true, false, List, [], ◌∷◌, ◌++◌, Option, Some, None, Ok, length, take, drop, slice_get, ap, sym, refl, ◌∙◌, arith, append-nil, append_assoc, nat_lt}
-use Rattle.status_table.specs.Words.{DoneStep, Job, JobPlan, JobState, Leg, LegState, Outcome, Plan, Run, RunPlan, RunState, StepCall, StepPlan, is_closed, is_ended, is_open, needs_have_ended, Board, IsPlan, JobAt, Lawful, NeedsPointBack, first_job, job_at}
-use Rattle.board_settled.specs.Sees.{Spot}
-use Rattle.board_settled.specs.Settled.{Answers, SettledLeg, SettledJob, shut, opened, steps_from, finish_of, next_call, spot_at, needs_of, legs_settled, job_settled, jobs_from, run_after}
+use Rattle.board_settled.specs.Words.{Answers, Board, DoneStep, IsFree, IsPlan, Job, JobAt, JobPlan, JobState, Lawful, Leg, LegState, NeedsPointBack, Outcome, Plan, Run, RunPlan, RunState, SettledJob, SettledLeg, Spot, StepCall, StepPlan, finish_of, first_job, is_closed, is_ended, is_open, job_at, job_settled, jobs_from, legs_settled, needs_have_ended, needs_of, next_call, opened, run_after, shut, spot_at, steps_from}
 use Rattle.board_settled.proofs.Numbers.{before_run, before_job}
 use Rattle.std.proofs.lemmas.Bool.{le-leb}
-use Rattle.board_settled.specs.Free.{IsFree}
 use Rattle.status_table.proofs.Found.{job_stands}
 use Rattle.board_decisions.proofs.Lists.{same_some}
 use Rattle.status_table.proofs.Turns.{Fits}

@@ -1,14 +1,8 @@
 -- The answers that a list records are those of its host.
 use Rattle.std.proofs.Common.{◌≡◌, ◌↔◌, ℕ, zero, suc, ◌==◌, ◌&&◌, Bool, true, false, List, [], ◌∷◌, Option, Some, None, IsTrue, slice_get, if◌then◌else◌, subst, ap, refl, sym, ◌∙◌, arith}
 use Rattle.std.proofs.lemmas.Bool.Decides.{nat_tests}
-use Rattle.status_table.specs.Words.{Answer, Board, Entry, Plan, StepCall, after}
-use Rattle.board_settled.specs.Alone.{ByAnswers}
-use Rattle.board_settled.specs.Records.{listed, recorded_answers, TellsSettled}
-use Rattle.board_settled.specs.Agrees.{IsSettled}
-use Rattle.board_settled.specs.Settled.{settled}
-use Rattle.step_host.specs.Replay.{IsRecorded, recorded}
+use Rattle.board_settled.specs.Words.{Answer, Board, ByAnswers, Entry, IsListed, IsRecorded, IsSettled, Line, Plan, StepCall, TellsSettled, after, listed, recorded, recorded_answers, settled}
 use Rattle.board_decisions.proofs.Lists.{and-left, and-right, same_some, no_some}
-use Rattle.step_host.specs.Script.{Line, IsListed}
 
 -- what is given is listed
 pub is_listed : (lines : List Line) (leg step : ℕ) (a : Answer) → listed lines leg step ≡ Some a → IsListed lines leg step a

@@ -1,9 +1,7 @@
 -- The events of runs and jobs keep what is played as settled.
 use Rattle.std.proofs.Common.{◌≡◌, ℕ, ◌+◌, ◌-◌, Bool, true, false, List, Option, Some, None, Result, Ok, Err, option_map, take, if◌then◌else◌, ap, subst, subst₂, sym, refl, ◌∙◌}
 use Rattle.std.proofs.lemmas.Bool.{true≢false}
-use Rattle.status_table.specs.Words.{Board, Entrance, Event, JobAt, JobState, Member, Outcome, Plain, Plan, Reply, RunAt, RunState, StepCall, ValueFault, admitted, closed, holding, is_closed, is_going, is_open, job_at, job_condition, job_status, jobs_have_ended, leaves, moved, needs_have_ended, run_at, run_entrance, run_result, run_standing, run_stands}
-use Rattle.board_settled.specs.Settled.{Answers, SettledJob, jobs_come_to, needs_of, legs_settled, job_settled, run_after}
-use Rattle.status_table.specs.declared.fault.EventFault.{EventFault}
+use Rattle.board_settled.specs.Words.{Answers, Board, Entrance, Event, EventFault, JobAt, JobState, Member, Outcome, Plain, Plan, Reply, RunAt, RunState, SeesSettled, SettledJob, StepCall, ValueFault, admitted, closed, holding, is_closed, is_going, is_open, job_at, job_condition, job_settled, job_status, jobs_come_to, jobs_have_ended, leaves, legs_settled, moved, needs_have_ended, needs_of, run_after, run_at, run_entrance, run_result, run_standing, run_stands}
 use Rattle.status_table.specs.Row as rows
 use Rattle.status_table.proofs.Found.{RunStands, JobStands, run_stands as run_found, job_stands as job_found}
 use Rattle.status_table.proofs.Sound.{is_numbered_in}
@@ -15,7 +13,6 @@ use Rattle.board_settled.proofs.SettledNeeds.{needs_settled, ordered, each_given
 use Rattle.board_settled.proofs.Numbers.{before_run, before_job, leg_spot}
 use Rattle.board_settled.proofs.Jobs.{judged_stands}
 use Rattle.board_settled.proofs.Needs.{jobs_result}
-use Rattle.board_settled.specs.Alone.{SeesSettled}
 
 module _ (p : Plan) (fit : IsFit p) (answers : Answers) (open_calls : ℕ → Option StepCall) (b : Board) (stands : Stands p answers open_calls b) where
   -- ---- Open

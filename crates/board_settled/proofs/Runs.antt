@@ -1,17 +1,11 @@
 -- A run on a quiet board beside what is settled of it.
 use Rattle.std.proofs.Common.{◌≡◌, ◌↔◌, ℕ, zero, suc, ◌+◌, ◌-◌, ◌<◌, ◌≤◌, ◌&&◌, Bool, true, false, List, [], ◌∷◌, ◌++◌, Some, option_map, length, map, take, drop, slice_get, nat_le, nat_lt, IsTrue, ap, subst, subst₂, sym, refl, ◌∙◌, arith, take_all}
-use Rattle.std.specs.List.{AllZip}
+use Rattle.board_settled.specs.Words.{AllZip, Answers, Board, Each, InPlay, IsJobOf, IsQuiet, Job, JobAt, JobFits, JobIsSettled, JobPlan, JobShape, NeedsPointBack, Plan, Run, RunAt, RunFits, RunIsSettled, RunShape, RunStands, RunState, SeesSettled, SettledJob, SettledRun, StandsAfterNeeds, ended_in_order, first_job, job_settled, jobs_come_to, leg_count, quiet_run, run_at, run_result, run_settled, runs_from}
 use Rattle.std.proofs.lemmas.Bool.{true≢false, le-leb}
 use Rattle.std.proofs.lemmas.List.{take_more}
 use Rattle.std.proofs.lemmas.Option.{slice_get_within, get_or_from_slice_get}
-use Rattle.status_table.specs.Words.{Board, Each, InPlay, Job, JobAt, JobFits, JobPlan, JobShape, NeedsPointBack, Plan, Run, RunAt, RunFits, RunShape, RunState, StandsAfterNeeds, first_job, run_at, run_result}
-use Rattle.board_settled.specs.Alone.{SeesSettled}
-use Rattle.board_settled.specs.Quiet.{ended_in_order, quiet_run}
-use Rattle.board_settled.specs.Runs.{IsJobOf, IsQuiet, RunStands}
 use Rattle.board_settled.proofs.Comes.{job_comes}
 use Rattle.board_settled.proofs.Needs.{ComesAt, IsOrdered, board_sees_settled, each_result, jobs_result}
-use Rattle.board_settled.specs.Agrees.{JobIsSettled, RunIsSettled}
-use Rattle.board_settled.specs.Settled.{Answers, SettledJob, SettledRun, jobs_come_to, job_settled, run_settled, leg_count, runs_from}
 use Rattle.board_settled.proofs.Played.{is_ordered, jobs_of, jobs_size, job_item}
 use Rattle.board_settled.proofs.Lists.{get-take, all-of, mapped_from}
 use Rattle.board_settled.proofs.Loops.{zip-first}

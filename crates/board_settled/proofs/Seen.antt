@@ -1,9 +1,6 @@
 -- What a board shows of a place is what is seen by the plan, the needs and the steps that are done.
 use Rattle.std.proofs.Common.{◌≡◌, ℕ, ◌&&◌, Some, [], ap, refl, ◌∙◌}
-use Rattle.status_table.specs.Words.{Context, JobAt, LegAt, Outcome, Plain, Status, StepPlan, TextPlace, Values, condition_value, contexts_at, failure_of, flow_env, is_failure, job_condition, job_env, job_of, job_tolerates, job_values, leg_env, leg_outputs, leg_result, leg_values, leg_values_by, matrix_value, needs_value, run_values, seen_from, status_of, step_decision, step_env, step_tolerates, steps_value, strategy_value, with_env}
-use Rattle.board_settled.specs.Decided.{step_call, step_passes, leg_passes, outputs_of_leg, failure_counts}
-use Rattle.board_settled.specs.Sees.{Spot, Sight, sight, job_sees, leg_sees, strategy_shown, matrix_shown, steps_shown}
-use Rattle.board_settled.specs.Settled.{counts, seen_after, next_call, finish_of}
+use Rattle.board_settled.specs.Words.{Context, JobAt, LegAt, Outcome, Plain, Sight, Spot, Status, StepPlan, TextPlace, Values, condition_value, contexts_at, counts, failure_counts, failure_of, finish_of, flow_env, is_failure, job_condition, job_env, job_of, job_sees, job_tolerates, job_values, leg_env, leg_outputs, leg_passes, leg_result, leg_sees, leg_values, leg_values_by, matrix_shown, matrix_value, needs_value, next_call, outputs_of_leg, run_values, seen_after, seen_from, sight, status_of, step_call, step_decision, step_env, step_passes, step_tolerates, steps_shown, steps_value, strategy_shown, strategy_value, with_env}
 
 -- ---- jobs
 

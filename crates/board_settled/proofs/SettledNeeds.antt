@@ -1,11 +1,8 @@
 -- What a job looks at once all that it needs has ended: its context `needs` and its status are as settled.
 use Rattle.std.proofs.Common.{◌≡◌, ℕ, suc, ◌+◌, ◌-◌, ◌&&◌, Bool, true, false, List, [], Option, Some, None, option_map, length, map, take, slice_get, nat_lt, ap, subst, sym, refl, ◌∙◌, arith}
-use Rattle.std.specs.List.{list_all, AllZip}
+use Rattle.board_settled.specs.Words.{AllZip, Answers, Board, Job, JobFits, JobPlan, JobShape, Plan, Run, RunFits, RunPlan, RunShape, SeesSettled, SettledJob, StepCall, all_given, first_job, holds, holds_at, is_closed, job_has_ended, job_results, job_settled, jobs_have_ended, list_all, needs_have_ended, result_of}
 use Rattle.std.proofs.lemmas.Bool.{true≢false, leb-true}
 use Rattle.std.proofs.lemmas.Option.{slice_get-map, slice_get_within}
-use Rattle.status_table.specs.Words.{Board, Job, JobFits, JobPlan, JobShape, Plan, Run, RunFits, RunPlan, RunShape, StepCall, first_job, holds, holds_at, is_closed, job_has_ended, job_results, jobs_have_ended, needs_have_ended}
-use Rattle.board_settled.specs.Alone.{SeesSettled}
-use Rattle.board_settled.specs.Settled.{Answers, SettledJob, all_given, result_of, job_settled}
 use Rattle.board_decisions.proofs.Lists.{and-left, and-right, and-both, same_some}
 use Rattle.status_table.proofs.Counts.{zip-left}
 use Rattle.status_table.proofs.Lists.{zip-get, zip-length, all-get}

@@ -14,3 +14,4 @@ pub mod Runs
 pub mod Sees
 pub mod Settled
 pub mod Variables
+pub mod Words

@@ -1,16 +1,8 @@
 //! Laws that join the table to the groups as they are kept by names.
 
 ghost use Rattle.std.specs.Prelude.{◌≡◌, ℕ, List, Some};
-ghost use Rattle.flow_model.specs.Rules.{IsPlan};
-ghost use Rattle.flow_model.specs.declared.board.Board.{Board};
-ghost use Rattle.flow_model.specs.declared.event.Answer.{Answer};
-ghost use Rattle.flow_model.specs.declared.event.Entry.{Entry};
+ghost use Rattle.board_settled.specs.Words.{Answer, AsksAsEntered, Board, ClosesAsLeft, DropsAsLeft, EntersFromOutside, Entry, FinishesAsLeft, IsPlan, KeptAsShown, OpensAsEntered, Plan, StaysShown, after, groups_after};
 ghost use Rattle.flow_model.specs.declared.event.Event.TheVariants as event;
-ghost use Rattle.flow_model.specs.declared.plan.Plan.{Plan};
-ghost use Rattle.board_settled.specs.Grouped.{groups_after};
-ghost use Rattle.status_table.specs.Admissions.{AsksAsEntered, ClosesAsLeft, DropsAsLeft, FinishesAsLeft, OpensAsEntered, StaysShown};
-ghost use Rattle.status_table.specs.Grouped.{EntersFromOutside, KeptAsShown};
-ghost use Rattle.status_table.specs.Runs.{after};
 
 use flow_model::laws::rules_hold;
 

@@ -1,6 +1,6 @@
 //! Laws of the call that a step makes, each a clause of a function that does nothing.
 
-ghost use Rattle.board_settled.specs.CallLaws.{CallsAreInOrder, CallsAreMostSpecific};
+ghost use Rattle.board_settled.specs.Words.{CallsAreInOrder, CallsAreMostSpecific};
 
 use plan_values::{env_has_its_names, levels_stay_in_order};
 

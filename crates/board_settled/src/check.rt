@@ -1,11 +1,7 @@
 //! Whether a board is all of what is settled.
 
 ghost use Rattle.std.specs.Prelude.{◌↔◌, IfOk, IsTrue};
-ghost use Rattle.board_settled.specs.Alone.{ByAnswers};
-ghost use Rattle.board_settled.specs.Runs.{IsQuiet};
-ghost use Rattle.board_settled.specs.Agrees.{IsSettled};
-ghost use Rattle.board_settled.specs.Settled.{settled};
-ghost use Rattle.status_table.specs.InPlay.{InPlay};
+ghost use Rattle.board_settled.specs.Words.{ByAnswers, InPlay, IsQuiet, IsSettled, settled};
 
 use crate::quiet::quiet_board;
 use crate::run::is_run_settled;

@@ -1,6 +1,6 @@
 //! Laws of the contexts of a job and a leg in play, each the contract of a function that does nothing.
 
-ghost use Rattle.board_settled.specs.Contexts.{LastLegWins, NeedsAreDirect, StepsAreDone};
+ghost use Rattle.board_settled.specs.Words.{LastLegWins, NeedsAreDirect, StepsAreDone};
 
 /// Of the legs of a job that ended with an output of that name, the one that ended last gives it.
 #[tactic(auto, using(crate::proofs::Named::last_leg_wins))]

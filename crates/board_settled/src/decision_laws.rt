@@ -1,14 +1,7 @@
 //! Laws of what the texts of a plan decide of jobs and steps in play, each the contract of a function that does nothing.
 
 ghost use Rattle.std.specs.Prelude.{◌≡◌, ℕ, Some};
-ghost use Rattle.board_decisions.specs.Ancestors.{SaysOf};
-ghost use Rattle.board_decisions.specs.Derived.{job_status};
-ghost use Rattle.board_decisions.specs.Place.{JobAt, job_at};
-ghost use Rattle.flow_model.specs.declared.board.Board.{Board};
-ghost use Rattle.flow_model.specs.declared.plan.Plan.{Plan};
-ghost use Rattle.board_settled.specs.DecisionLaws.{NoCallAfterFailure, OnlyFailuresArePassedOver};
-ghost use Rattle.status_table.specs.InPlay.{InPlay};
-ghost use Rattle.status_table.specs.Row.{first_of};
+ghost use Rattle.board_settled.specs.Words.{Board, InPlay, JobAt, NoCallAfterFailure, OnlyFailuresArePassedOver, Plan, SaysOf, first_of, job_at, job_status};
 
 use plan_values::waits_for_success;
 

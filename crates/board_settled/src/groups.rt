@@ -1,6 +1,6 @@
 //! Laws of the names of groups on the board after a legal list of entries.
 
-ghost use Rattle.board_settled.specs.Groups.{NamesAreFolded, OneHolderWhateverTheCase};
+ghost use Rattle.board_settled.specs.Words.{NamesAreFolded, OneHolderWhateverTheCase};
 
 use crate::admission_laws::legal_lists_are_shown;
 

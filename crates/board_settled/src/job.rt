@@ -1,17 +1,8 @@
 //! A job that is held against what is settled.
 
 ghost use Rattle.std.specs.Prelude.{◌≡◌, ◌↔◌, IfOk, IsTrue, List, false, length};
-ghost use Rattle.std.specs.List.{AllZip};
-ghost use Rattle.board_decisions.specs.Ancestors.{StandsAfterNeeds};
-ghost use Rattle.board_decisions.specs.Contexts.{needs_value};
-ghost use Rattle.board_decisions.specs.Decisions.{job_condition as condition_of};
-ghost use Rattle.board_decisions.specs.Derived.{job_status as status_of};
-ghost use Rattle.board_decisions.specs.Seen.{job_seen};
+ghost use Rattle.board_settled.specs.Words.{AllZip, ByAnswers, IsAlone, JobIsSettled, LegIsSettled, SettledJob, StandsAfterNeeds, job_condition as condition_of, job_seen, job_settled, job_status as status_of, judged_state as judged_of, legs_settled, needs_value};
 ghost use Rattle.board_settled.specs.Alone as spec;
-ghost use Rattle.board_settled.specs.Alone.{ByAnswers, IsAlone};
-ghost use Rattle.board_settled.specs.Agrees.{JobIsSettled, LegIsSettled};
-ghost use Rattle.board_settled.specs.Settled.{SettledJob, job_settled, legs_settled};
-ghost use Rattle.status_table.specs.Row.{judged_state as judged_of};
 
 use crate::leg::{LegSpot, is_leg_settled};
 use board_decisions::ancestors::job_status;

@@ -1,13 +1,8 @@
 //! A leg that is played by itself, and held against one on a board.
 
 ghost use Rattle.std.specs.Prelude.{◌≡◌, ◌↔◌, [], IfOk, IsTrue, Some, option_map};
-ghost use Rattle.board_decisions.specs.Seen.{job_seen, leg_seen};
-ghost use Rattle.flow_model.specs.declared.plan.StepPlan.{StepPlan as StepPlanOf};
+ghost use Rattle.board_settled.specs.Words.{ByAnswers, IsAlone, IsIdle, LegIsSettled, StepPlan as StepPlanOf, answered_step, job_seen, leg_seen, leg_settled, next_step, outcome_of};
 ghost use Rattle.board_settled.specs.Alone as spec;
-ghost use Rattle.board_settled.specs.Alone.{ByAnswers, IsAlone, IsIdle};
-ghost use Rattle.board_settled.specs.Agrees.{LegIsSettled};
-ghost use Rattle.board_settled.specs.Settled.{leg_settled};
-ghost use Rattle.status_table.specs.Row.{answered_step, next_step, outcome_of};
 
 use crate::same::are_same_steps;
 use board_decisions::decisions::{job_tolerates, leg_outputs, leg_result};

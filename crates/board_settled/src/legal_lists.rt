@@ -1,15 +1,7 @@
 //! What holds of the board after every legal list of entries, each the contract of a function that does nothing.
 
 ghost use Rattle.std.specs.Prelude.{◌≡◌, List, Some};
-ghost use Rattle.flow_model.specs.Rules.{IsPlan};
-ghost use Rattle.flow_model.specs.declared.board.Board.{Board};
-ghost use Rattle.flow_model.specs.declared.event.Entry.{Entry};
-ghost use Rattle.flow_model.specs.declared.plan.Plan.{Plan};
-ghost use Rattle.status_table.specs.Ends.{EndOnce};
-ghost use Rattle.status_table.specs.Lawful.{Lawful};
-ghost use Rattle.status_table.specs.Runs.{after, after_from};
-ghost use Rattle.status_table.specs.Shape.{HasShape};
-ghost use Rattle.status_table.specs.Stays.{Stays};
+ghost use Rattle.board_settled.specs.Words.{Board, EndOnce, Entry, HasShape, IsPlan, Lawful, Plan, Stays, after, after_from};
 
 use flow_model::laws::rules_hold;
 

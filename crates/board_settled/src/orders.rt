@@ -1,12 +1,8 @@
 //! The maps of a plan name each key once, in the byte order of the keys.
 
 ghost use Rattle.std.specs.Prelude.{ℕ};
-ghost use Rattle.flow_model.specs.Sound.{Each};
-ghost use Rattle.flow_model.specs.declared.board.Board.{Board};
+ghost use Rattle.board_settled.specs.Words.{Board, CallInOrder, Each, IfCalled, PlanInOrder, WorkInOrder, row};
 ghost use Rattle.flow_model.specs.declared.event.Event.TheVariants as event;
-ghost use Rattle.board_settled.specs.CallLaws.{CallInOrder, PlanInOrder, WorkInOrder};
-ghost use Rattle.status_table.specs.Calls.{IfCalled};
-ghost use Rattle.status_table.specs.Row.{row};
 
 use crate::call_laws::calls_are_in_order;
 use flow_model::{DoneStep, JobPlan, Plan, RunPlan, Sequence, StepPlan, Work};
@@ -49,7 +45,7 @@ fn each_in_order<T: InOrder>(items: &Sequence<T>)
 }
 
 impl InOrder for StepPlan {
-    ghost use Rattle.board_settled.specs.CallLaws.{StepInOrder};
+    ghost use Rattle.board_settled.specs.Words.{StepInOrder};
 
     ghost in_order = { StepInOrder };
 
@@ -60,7 +56,7 @@ impl InOrder for StepPlan {
 }
 
 impl InOrder for JobPlan {
-    ghost use Rattle.board_settled.specs.CallLaws.{JobInOrder};
+    ghost use Rattle.board_settled.specs.Words.{JobInOrder};
 
     ghost in_order = { JobInOrder };
 
@@ -71,7 +67,7 @@ impl InOrder for JobPlan {
 }
 
 impl InOrder for RunPlan {
-    ghost use Rattle.board_settled.specs.CallLaws.{RunInOrder};
+    ghost use Rattle.board_settled.specs.Words.{RunInOrder};
 
     ghost in_order = { RunInOrder };
 
@@ -82,7 +78,7 @@ impl InOrder for RunPlan {
 }
 
 impl InOrder for DoneStep {
-    ghost use Rattle.flow_model.specs.Mapping.{Ascends};
+    ghost use Rattle.board_settled.specs.Words.{Ascends};
 
     ghost in_order = { λ done. Ascends done.env };
 

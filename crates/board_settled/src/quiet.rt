@@ -1,9 +1,7 @@
 //! A copy of a board on which no run is told to stop, and the legs ended in the order of their numbers.
 
 ghost use Rattle.std.specs.Prelude.{◌≡◌, ◌≤◌, IfOk, length, map};
-ghost use Rattle.std.specs.List.{filter};
-ghost use Rattle.board_decisions.specs.Places.{numbers};
-ghost use Rattle.flow_model.specs.Numbers.{board_legs};
+ghost use Rattle.board_settled.specs.Words.{board_legs, filter, numbers};
 ghost use Rattle.board_settled.specs.Quiet as spec;
 
 use board_decisions::place::numbered_leg;

@@ -1,9 +1,7 @@
 //! Whether a record leads to all of what is settled.
 
 ghost use Rattle.std.specs.Prelude.{◌≡◌, IfErr, IfOk, Some};
-ghost use Rattle.board_settled.specs.Records.{TellsSettled};
-ghost use Rattle.status_table.specs.Runs.{after};
-ghost use Rattle.step_host.specs.Replay.{IsRefusedAt};
+ghost use Rattle.board_settled.specs.Words.{IsRefusedAt, TellsSettled, after};
 
 use crate::check::is_settled;
 use flow_model::{CheckedPlan, Entry};

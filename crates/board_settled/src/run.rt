@@ -1,10 +1,8 @@
 //! A run that is held against what is settled.
 
-ghost use Rattle.std.specs.Prelude.{◌≡◌, ◌↔◌, IfOk, IfSome, IsTrue};
-ghost use Rattle.board_decisions.specs.Seen.{job_seen, run_seen};
-ghost use Rattle.board_settled.specs.Alone.{ByAnswers};
+ghost use Rattle.std.specs.Prelude.{IfOk, IfSome};
+ghost use Rattle.board_settled.specs.Words.{ByAnswers, job_seen, run_seen, run_settled};
 ghost use Rattle.board_settled.specs.Runs as spec;
-ghost use Rattle.board_settled.specs.Settled.{run_settled};
 
 use crate::job::is_job_settled;
 use board_decisions::derived::run_result;

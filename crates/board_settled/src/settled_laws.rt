@@ -1,7 +1,7 @@
 //! What holds of every board beside what is settled, each
 //! the contract of a function that does nothing.
 
-ghost use Rattle.board_settled.specs.Agrees.{FinishesAsSettled, OnlyEndsDiffer, PlaysAsSettled};
+ghost use Rattle.board_settled.specs.Words.{FinishesAsSettled, OnlyEndsDiffer, PlaysAsSettled};
 
 use flow_model::laws::{needs_point_back, rules_hold};
 

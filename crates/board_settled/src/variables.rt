@@ -1,7 +1,7 @@
 //! Laws of the variables that steps set for the steps after them (GitHub Docs, workflow commands: setting an environment
 //! variable).
 
-ghost use Rattle.board_settled.specs.Variables.{LastToSetWins, NothingSetIsTheJobs};
+ghost use Rattle.board_settled.specs.Words.{LastToSetWins, NothingSetIsTheJobs};
 
 use crate::call_laws::calls_are_in_order;
 use crate::orders::{all_in_order, maps_are_in_order};

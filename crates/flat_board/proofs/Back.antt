@@ -1,20 +1,11 @@
 -- An event that is taken back.
-use Rattle.std.proofs.Common.{◌≡◌, ◌⊎◌, ℕ, inl, inr, ◌≤◌, true, false, List, [], ◌∷◌, Option, Some, None, Result, Ok, Err, option_map, option_and_then, slice_get, ap, subst, sym, refl, ◌∙◌}
-use Rattle.std.specs.Prelude.{IfOk}
-use Rattle.status_table.specs.Words.{Ascends, Board, Content, Event, Held, InPlay, KeptAsShown, Known, Leg, LegState, Member, Plan, Reply, Run, RunState, Standing, answer_of, apart, board_legs, content, done_of, holding, is_known, leg_standing, leg_stands, put_known, run_standing, run_stands, value_at, waiting, without_reply, ◌>>=◌}
+use Rattle.std.proofs.Common.{◌≡◌, ◌⊎◌, ℕ, inl, inr, ◌≤◌, true, false, List, [], ◌∷◌, Option, Some, None, Result, Ok, Err, option_map, option_and_then, slice_get, ap, subst, sym, refl, ◌∙◌, IfOk}
+use Rattle.flat_board.specs.Words.{Ascends, Board, CellBack, Content, Event, EventFault, Fits, Follows, FollowsUnasked, GroupedBoard, Held, InPlay, IsAt, IsName, IsSound, KeptAsShown, Known, Leg, LegState, Member, NamesKnown, Plan, Reply, RestoresGroups, Run, RunState, Seen, SeenNamed, Standing, Undo, answer_of, apart, board_before, board_legs, cell_of, content, done_of, group_at, group_of, groups_put_back, holding, is_known, leg_names, leg_standing, leg_stands, name_put_back, put_known, run_names, run_standing, run_stands, seen_at, value_at, waiting, without_reply, ◌>>=◌}
 use Rattle.group_admission.proofs.Back.{all_put_back, same_content}
-use Rattle.flat_board.specs.Index.{Follows, FollowsUnasked}
-use Rattle.flat_board.specs.Names.{IsName, NamesKnown, Seen, SeenNamed, group_at, group_of, leg_names, run_names, seen_at}
-use Rattle.flat_board.specs.Sound.{IsSound}
-use Rattle.flat_board.specs.Undo.{Fits, IsAt, RestoresGroups, board_before, cell_of, groups_put_back, name_put_back}
-use Rattle.flat_board.specs.declared.grouped_board.GroupedBoard.{GroupedBoard}
-use Rattle.flat_board.specs.declared.undo.CellBack.{CellBack}
-use Rattle.flat_board.specs.declared.undo.Undo.{Undo}
 use Rattle.flat_board.proofs.Known.{names_before, names_put_back, stays_in}
 use Rattle.flat_board.proofs.Leaving.{awaited_stands, held_stands}
 use Rattle.flat_board.proofs.Named.{filled}
 use Rattle.flat_board.proofs.Playing.{sound_after}
-use Rattle.status_table.specs.declared.fault.EventFault.{EventFault}
 use Rattle.status_table.proofs.Steps.{standing}
 use Rattle.board_decisions.proofs.Lists.{same_some, no_some}
 

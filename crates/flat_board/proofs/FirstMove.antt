@@ -1,7 +1,6 @@
 -- The first of the clerk's events that are accepted.
 use Rattle.std.proofs.Common.{◌≡◌, ℕ, zero, suc, ◌+◌, ◌-◌, ◌<◌, ◌++◌, Bool, true, false, List, [], ◌∷◌, Some, None, length, map, filter, slice_get, ap, sym, refl, subst, ◌∙◌, arith}
-use Rattle.status_table.specs.Words.{Board, board_jobs, board_legs, clerk_events, events_of, numbers, Event}
-use Rattle.status_table.specs.declared.moves.MoveKind.{MoveKind}
+use Rattle.flat_board.specs.Words.{Board, Event, MoveKind, board_jobs, board_legs, clerk_events, events_of, numbers}
 use Rattle.status_table.proofs.Accepting.{in_order, none_more, one_more, step}
 
 -- what is first stays so whatever comes after it

@@ -1,5 +1,5 @@
 -- The laws of the groups by names, as the table asks for them.
-use Rattle.status_table.specs.Words.{released, withdrawn}
+use Rattle.flat_board.specs.Words.{released, withdrawn}
 use Rattle.status_table.proofs.Grouped.{GroupLaws}
 use Rattle.group_admission.proofs.Entering.{first_holds, next_displaces, own_run_changes_nothing, Ascends-after_enter}
 use Rattle.group_admission.proofs.Leaving.{release_passes_on, withdraw_leaves_holder}

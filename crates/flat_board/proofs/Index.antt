@@ -1,10 +1,8 @@
 -- What the index of groups tells of a board.
 use Rattle.std.proofs.Common.{◌≡◌, ◌⊎◌, ℕ, inl, inr, false, List, [], ◌∷◌, Option, Some, None, option_map, option_and_then, if◌then◌else◌, ap, refl, ◌∙◌}
-use Rattle.status_table.specs.Words.{Board, Content, Held, KeptAsShown, Member, after_at, after_enter, fold, holder, holder_of, is_own, value_at, waiter, waiter_of, with_pair}
+use Rattle.flat_board.specs.Words.{Board, Content, Held, IsAt, IsName, KeptAsShown, Member, NameChanged, after_at, after_enter, fold, holder, holder_of, is_own, value_at, waiter, waiter_of, with_pair}
 use Rattle.group_admission.specs.Content.{is_own as own_run}
-use Rattle.flat_board.specs.Undo.{IsAt, NameChanged}
 use Rattle.flow_model.proofs.Lookups.{found_other, found_same}
-use Rattle.flat_board.specs.Names.{IsName}
 
 -- who holds the name of a group, by the index
 pub holder_told : (groups : Content) (b : Board) (name : List ℕ) → IsName name → KeptAsShown groups b → holder_of (fold name) groups ≡ holder b name

@@ -1,17 +1,12 @@
 -- The names that stand on a board are known to the groups after an event, and before it.
 use Rattle.std.proofs.Common.{◌≡◌, ◌≢◌, ℕ, zero, suc, ◌+◌, ◌-◌, Bool, true, false, List, [], ◌∷◌, Option, Some, None, Result, Ok, length, slice_get, if◌then◌else◌, refl, ap, subst, sym, ◌∙◌, arith}
-use Rattle.std.specs.List.{flat_map}
+use Rattle.flat_board.specs.Words.{AsksNamed, Board, CellBack, Content, Entrance, Event, Held, IsGroup, IsName, IsNamed, IsNamedIn, Job, Keeps, Known, LegAt, Member, NamesKnown, Plan, Reply, Row, Run, RunAt, Seen, SeenNamed, ValueFault, after_at, after_enter, after_event, asked, board_jobs, content, event_row, flat_map, fold, group_at, group_of, groups_put_back, is_fresh, is_known, is_new, leg_asked, leg_names, name_put_back, opened, put_known, run_names, run_opened, seen_at, value_at, with_pair, ◌>>=◌}
 use Rattle.std.proofs.lemmas.Option.{slice_get_within}
 use Rattle.std.proofs.lemmas.Bool.{true≢false}
-use Rattle.status_table.specs.Words.{Board, Content, Entrance, Event, Held, Job, Known, LegAt, Member, Plan, Reply, Row, Run, RunAt, ValueFault, after_at, after_enter, after_event, asked, board_jobs, content, event_row, fold, is_fresh, is_known, leg_asked, opened, put_known, run_opened, value_at, with_pair, ◌>>=◌}
 use Rattle.board_decisions.proofs.Lists.{get-left, get-right, no_some, same_some}
 use Rattle.flow_model.proofs.Lookups.{found_same}
 use Rattle.group_admission.specs.Content.{is_own}
 use Rattle.group_admission.proofs.Back.{held_is_known, put_keeps}
-use Rattle.flat_board.specs.Index.{AsksNamed, Keeps}
-use Rattle.flat_board.specs.Names.{IsGroup, IsName, IsNamed, IsNamedIn, NamesKnown, Seen, SeenNamed, group_at, group_of, is_new, leg_names, run_names, seen_at}
-use Rattle.flat_board.specs.Undo.{groups_put_back, name_put_back}
-use Rattle.flat_board.specs.declared.undo.CellBack.{CellBack}
 use Rattle.flat_board.proofs.Named.{leg_asks, run_asks}
 use Rattle.flat_board.proofs.Names.{Comes, Enters, ThenSeen, event_step, flag_of}
 

@@ -1,17 +1,12 @@
 -- A member that ended leaves its group, by the name of that.
 use Rattle.std.proofs.Common.{◌≡◌, ◌≢◌, ℕ, Bool, true, false, List, [], ◌∷◌, Option, Some, None, option_map, option_and_then, ap, subst, sym, refl, ◌∙◌}
 use Rattle.std.proofs.lemmas.Bool.{true≢false}
-use Rattle.status_table.specs.Words.{Board, Content, KeptAsShown, Leg, LegAt, LegState, Member, Outcome, Plan, Run, RunAt, Standing, after_release, after_withdraw, dropped, holder_of, holding, left, leg_at, leg_ended, leg_standing, leg_stands as leg_stands_so, leg_there, run_at, run_standing, run_stands as run_stands_so, same_member, value_at, waiter_of, waiting, with_leg, Held}
+use Rattle.flat_board.specs.Words.{Board, CellBack, Content, Held, IsGroup, KeptAsShown, Leaves, Leg, LegAt, LegState, Member, Outcome, Plan, Run, RunAt, Stand, Standing, StandsOnlyThere, after_release, after_withdraw, dropped, group_at, group_of, holder_of, holding, left, leg_at, leg_ended, leg_standing, leg_stands as leg_stands_so, leg_there, run_at, run_standing, run_stands as run_stands_so, same_member, standing_by, value_at, waiter_of, waiting, with_leg}
 use Rattle.group_admission.proofs.Leaving.{release_passes_on, withdraw_leaves_holder}
 use Rattle.group_admission.proofs.Members.{one_member, there as there_is}
 use Rattle.group_admission.proofs.Nowhere.{nothing_released, nothing_withdrawn}
 use Rattle.flat_board.proofs.Named.{filled}
 use Rattle.flat_board.proofs.Names.{seen_leg, seen_run}
-use Rattle.flat_board.specs.Names.{IsGroup, group_at, group_of}
-use Rattle.flat_board.specs.Stands.{StandsOnlyThere, standing_by}
-use Rattle.flat_board.specs.Undo.{Leaves}
-use Rattle.flat_board.specs.declared.undo.CellBack.{CellBack}
-use Rattle.flat_board.specs.declared.groups.Stand.{Stand}
 use Rattle.board_counters.proofs.Tallies.{leg_there_changed, there}
 use Rattle.status_table.proofs.Found.{leg_item, leg_stands, run_stands}
 use Rattle.board_decisions.proofs.Lists.{same_some, no_some}

@@ -1,9 +1,7 @@
 -- The names of groups that are entered.
 use Rattle.std.proofs.Common.{◌≡◌, ℕ, Bool, List, [], ◌∷◌, Option, Some, None, Result, Ok, Err, subst, ◌≢◌}
 use Rattle.std.proofs.lemmas.Str.Ascii.{lowercase-lowercase}
-use Rattle.std.specs.Char.{to_ascii_lowercase}
-use Rattle.status_table.specs.Words.{Contexts, Entrance, Gives, Group, LegAt, RunAt, TextPlace, ValueFault, contexts_at, entrance, entrance_value, flag_value, fold, leg_entrance, run_entrance, run_values, seen_from, text_text, then_value, with_env}
-use Rattle.flat_board.specs.Index.{EntersNamed, AsksNamed}
+use Rattle.flat_board.specs.Words.{AsksNamed, Contexts, EntersNamed, Entrance, Gives, Group, LegAt, RunAt, TextPlace, ValueFault, contexts_at, entrance, entrance_value, flag_value, fold, leg_entrance, run_entrance, run_values, seen_from, text_text, then_value, to_ascii_lowercase, with_env}
 use Rattle.board_counters.proofs.Lists.{map-twice}
 
 pub filled : (c : ℕ) (cs : List ℕ) → c ∷ cs ≢ []

@@ -1,9 +1,6 @@
 -- What is seen of the members of a board after an event.
 use Rattle.std.proofs.Common.{◌≡◌, ℕ, zero, suc, ◌&&◌, ◌||◌, ◌==◌, ◌++◌, Bool, true, false, not, List, [], ◌∷◌, Option, Some, None, Result, Ok, Err, slice_get, nat_lt, length, option_and_then, if◌then◌else◌, ap, subst, sym, refl, ◌∙◌}
-use Rattle.std.specs.List.{flat_map}
-use Rattle.status_table.specs.Words.{Answer, Beginning, Board, DoneStep, Entrance, Event, Job, JobAt, JobPlace, JobState, Leg, LegAt, LegPlace, LegState, Member, Outcome, Plan, Row, Run, RunAt, RunState, Standing, ValueFault, admitted, ask_found, begin_found, begin_leg, beginning, board_legs, calls, cancel_found, cancelled, changed, close_found, close_run, close_waiting, closed, displaced, drop_found, dropped, end_found, end_leg, ended_state, ending, enters, enters_held, event_row, failed_step, faults, finish_found, finish_leg, finishing_by, holder, idle_owner, is_closed, is_fresh, is_full, is_going, is_open, is_own, is_stopping, job_at, job_state_set, jobs_have_ended, judge_found, judge_job, judgement, leaves, leg_at, leg_changed, leg_ended, leg_enters, leg_entrance, leg_outputs, leg_place, leg_result, leg_standing, leg_state_set, leg_there, may_ask, may_drop, moved, next_after, open_found, open_run, passed_on, queued, run_at, run_closes, run_enters, run_entrance, run_result, run_standing, skipped_step, skips, step_done, stopped, take_found, take_leg, waiter, waits, with_leg, with_numbered_leg, with_run, ◌>>=◌}
-use Rattle.flat_board.specs.Names.{Seen, group_at, group_of, is_new, leg_names, run_names, seen_at}
-use Rattle.status_table.specs.declared.fault.EventFault.{EventFault}
+use Rattle.flat_board.specs.Words.{Answer, Beginning, Board, DoneStep, Entrance, Event, EventFault, Job, JobAt, JobPlace, JobState, Leg, LegAt, LegPlace, LegState, Member, Outcome, Plan, Row, Run, RunAt, RunState, Seen, Standing, ValueFault, admitted, ask_found, begin_found, begin_leg, beginning, board_legs, calls, cancel_found, cancelled, changed, close_found, close_run, close_waiting, closed, displaced, drop_found, dropped, end_found, end_leg, ended_state, ending, enters, enters_held, event_row, failed_step, faults, finish_found, finish_leg, finishing_by, flat_map, group_at, group_of, holder, idle_owner, is_closed, is_fresh, is_full, is_going, is_new, is_open, is_own, is_stopping, job_at, job_state_set, jobs_have_ended, judge_found, judge_job, judgement, leaves, leg_at, leg_changed, leg_ended, leg_enters, leg_entrance, leg_names, leg_outputs, leg_place, leg_result, leg_standing, leg_state_set, leg_there, may_ask, may_drop, moved, next_after, open_found, open_run, passed_on, queued, run_at, run_closes, run_enters, run_entrance, run_names, run_result, run_standing, seen_at, skipped_step, skips, step_done, stopped, take_found, take_leg, waiter, waits, with_leg, with_numbered_leg, with_run, ◌>>=◌}
 use Rattle.board_decisions.proofs.Lists.{and-right}
 use Rattle.status_table.proofs.Decided.{by_test}
 use Rattle.status_table.proofs.Found.{leg_item, leg_stands, run_stands}

@@ -1,19 +1,13 @@
 -- A clerk's events that are refused to all jobs or legs of a run.
 use Rattle.std.proofs.Common.{◌≡◌, ℕ, ◌+◌, ◌<◌, ◌≤◌, ◌==◌, ◌&&◌, ◌||◌, Bool, true, false, not, List, Option, Some, None, length, slice_get, count_by, sum_by, nat_lt, ap, sym, refl, ◌∙◌, arith}
-use Rattle.std.specs.List.{list_any}
+use Rattle.flat_board.specs.Words.{Board, Event, Job, JobAt, JobPlace, JobState, Leg, LegAt, LegPlace, LegState, MoveKind, Outcome, Plan, Row, Run, RunState, accepts, ask_found, changed, drop_found, event_of, has_failed, is_accepted, is_all_judged, is_ended, is_fresh, is_going, is_none_stopping, is_open, is_run_idle, is_stopping, is_under_way as takes_slot, is_unjudged, is_untaken, job_at, job_place, judge_found, judge_job, judgement_by, leg_at, leg_place, legs_of_jobs, list_any, may_ask, may_drop, run_legs, run_tally, standing_of, stops_anyway, tally_of, told_of}
 use Rattle.std.proofs.lemmas.Bool.{true≢false, false_from_ne_true}
 use Rattle.std.proofs.lemmas.Bool.Decides.{nat_tests}
 use Rattle.std.proofs.lemmas.List.Sums.{get_or-le-sum_by, sum_by-le-sum_by}
 use Rattle.std.proofs.lemmas.Option.{get_or_from_slice_get, slice_get_within}
-use Rattle.status_table.specs.Words.{Board, Event, Job, JobAt, JobPlace, JobState, Leg, LegAt, LegPlace, LegState, Plan, Run, RunState, accepts, ask_found, drop_found, event_of, has_failed, is_accepted, is_ended, is_fresh, is_going, is_open, is_stopping, is_under_way as takes_slot, is_untaken, job_at, job_place, judge_found, judge_job, judgement_by, leg_at, leg_place, may_ask, may_drop, stops_anyway, Outcome, Row, changed}
 use Rattle.board_decisions.proofs.Lists.{and-both, and-left, and-right, same_some}
-use Rattle.flat_board.specs.Idle.{is_all_judged, is_none_stopping, is_run_idle}
 use Rattle.flat_board.proofs.RunNumbers.{job_further, leg_further}
-use Rattle.board_counters.specs.Counters.{tally_of}
-use Rattle.board_counters.specs.Standing.{is_unjudged, run_tally, standing_of}
-use Rattle.board_counters.specs.Stopping.{legs_of_jobs, run_legs, told_of}
 use Rattle.board_counters.proofs.Lists.{any_counted}
-use Rattle.status_table.specs.declared.moves.MoveKind.{MoveKind}
 use Rattle.status_table.proofs.Counts.{counted, one, sum-changed}
 use Rattle.status_table.proofs.Found.{LegStands, job_stands, leg_stands}
 

@@ -1,19 +1,10 @@
 -- A plan in play with its groups, after an event.
 use Rattle.std.proofs.Common.{◌≡◌, ℕ, zero, suc, ◌≤◌, Bool, List, [], ◌∷◌, map, slice_get, None, Result, Ok, Err, nat_le, if◌then◌else◌, ap, subst, sym, refl, ◌∙◌}
 use Rattle.std.proofs.lemmas.Bool.{le-leb}
-use Rattle.std.specs.List.{flat_map}
-use Rattle.status_table.specs.Words.{Answers, Board, Content, Entry, Event, InPlay, IsPlan, Job, KeptAsShown, Known, Leg, Member, Plan, Play, Plays, Reply, Row, SoundPlan, Stays, after_event, board_legs, content, event_row, is_known, new_board, new_job, new_leg, new_play, new_run, plan_jobs, plan_legs, row, ◌>>=◌, done_of}
+use Rattle.flat_board.specs.Words.{Answers, Board, Content, Entry, Event, EventFault, Follows, FollowsUnasked, Goes, GroupedBoard, InPlay, IsPlan, IsSound, Job, KeptAsShown, Known, Led, Leg, Member, NamesKnown, Plan, Play, Plays, Reply, Row, Seen, SeenNamed, SoundPlan, Stays, Undo, after_event, board_legs, content, done_of, event_row, flat_map, is_known, leg_names, new_board, new_job, new_leg, new_play, new_run, plan_jobs, plan_legs, play_of, row, run_names, ◌>>=◌}
 use Rattle.status_table.proofs.Lists.{flat_map-map}
-use Rattle.board_counters.specs.Track.{play_of}
-use Rattle.flat_board.specs.Events.{Led}
-use Rattle.flat_board.specs.Index.{Follows, FollowsUnasked, Goes}
-use Rattle.flat_board.specs.Names.{NamesKnown, Seen, SeenNamed, leg_names, run_names}
-use Rattle.flat_board.specs.Sound.{IsSound}
-use Rattle.flat_board.specs.declared.grouped_board.GroupedBoard.{GroupedBoard}
-use Rattle.flat_board.specs.declared.undo.Undo.{Undo}
 use Rattle.flat_board.proofs.GroupLaws.{group_laws}
 use Rattle.flat_board.proofs.Known.{names_after}
-use Rattle.status_table.specs.declared.fault.EventFault.{EventFault}
 use Rattle.status_table.proofs.Ended.{stays-same}
 use Rattle.status_table.proofs.Grouped.{event_kept, new_kept}
 use Rattle.status_table.proofs.InPlay.{new_in_play, answer_in_play}

@@ -1,11 +1,9 @@
 -- What is known of a run or a leg that is found.
 use Rattle.std.proofs.Common.{◌≡◌, ℕ, Bool, true, false, not, Some, Ok, Err, if◌then◌else◌, ap, subst, sym, refl, ◌∙◌}
-use Rattle.status_table.specs.Words.{Board, Content, Event, JobAt, JobState, KeptAsShown, Known, LegAt, Member, Plan, RunAt, RunState, accepts, ask_found, first_of, is_accepted, is_fresh, is_full, is_in_group, is_stopping, job_at, job_condition, job_status, judge_found, judge_job, judged_state, judgement, judgement_by, leg_at, leg_enters, leg_entrance, may_ask, needs_have_ended, open_found, open_run, run_at, run_entrance}
-use Rattle.flat_board.specs.Names.{IsGroup, NamesKnown, SeenNamed, is_new}
+use Rattle.flat_board.specs.Words.{Board, Content, Event, EventFault, IsGroup, JobAt, JobState, KeptAsShown, Known, LegAt, Member, NamesKnown, Plan, RunAt, RunState, SeenNamed, accepts, ask_found, first_of, is_accepted, is_fresh, is_full, is_in_group, is_new, is_stopping, job_at, job_condition, job_status, judge_found, judge_job, judged_state, judgement, judgement_by, leg_at, leg_enters, leg_entrance, may_ask, needs_have_ended, open_found, open_run, run_at, run_entrance}
 use Rattle.flat_board.proofs.GroupLaws.{group_laws}
 use Rattle.flat_board.proofs.Known.{seen_group}
 use Rattle.flat_board.proofs.Names.{seen_leg, seen_run}
-use Rattle.status_table.specs.declared.fault.EventFault.{EventFault}
 use Rattle.status_table.proofs.Accepting.{run_enters_accepted, leg_enters_accepted}
 use Rattle.status_table.proofs.Grouped.{enters_from_outside}
 

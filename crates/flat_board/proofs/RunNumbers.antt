@@ -2,9 +2,8 @@
 use Rattle.std.proofs.Common.{◌≡◌, ℕ, suc, ◌+◌, ◌-◌, ◌<◌, ◌≤◌, ◌⊎◌, inl, inr, Bool, true, false, List, [], ◌∷◌, Option, Some, Result, Ok, Err, length, slice_get, nat_lt, ap, sym, refl, ◌∙◌, arith, zero, subst}
 use Rattle.std.proofs.lemmas.Bool.{false_from_ne_true, le-leb, leb-true}
 use Rattle.std.proofs.lemmas.List.Sums.{sum_by-cons}
-use Rattle.status_table.specs.Words.{Board, Job, JobPlace, LegPlace, Run, else_from, job_place, job_place_from, leg_in_jobs, leg_place, leg_place_from}
+use Rattle.flat_board.specs.Words.{Board, Job, JobPlace, LegPlace, Run, else_from, job_place, job_place_from, leg_in_jobs, leg_place, leg_place_from, legs_of_jobs}
 use Rattle.board_decisions.proofs.Lists.{same_some, no_some}
-use Rattle.board_counters.specs.Stopping.{legs_of_jobs}
 use Rattle.status_table.proofs.Numbers.{jobs_before, number_of_job}
 
 -- ---- jobs

@@ -5,3 +5,4 @@ pub mod Names
 pub mod Sound
 pub mod Stands
 pub mod Undo
+pub mod Words

@@ -3,15 +3,8 @@
 //! Each function looks for a refusal first, makes what room it needs, and only then changes the board.
 
 ghost use Rattle.std.specs.Prelude.{◌≡◌, ◌≤◌, Some};
-ghost use Rattle.board_decisions.specs.Place.{job_at};
-ghost use Rattle.board_decisions.specs.Seen.{job_seen};
-ghost use Rattle.flat_board.specs.Events.{Answered, MovedBy};
-ghost use Rattle.flat_board.specs.Names.{NamesKnown};
+ghost use Rattle.flat_board.specs.Words.{Answered, Decides, InPlay, KeptAsShown, MovedBy, NamesKnown, content, job_at, job_seen};
 ghost use Rattle.flow_model.specs.declared.event.Event.TheVariants as event;
-ghost use Rattle.group_admission.specs.Known.{content};
-ghost use Rattle.status_table.specs.Answers.{Decides};
-ghost use Rattle.status_table.specs.Grouped.{KeptAsShown};
-ghost use Rattle.status_table.specs.InPlay.{InPlay};
 ghost use Rattle.status_table.specs.Row as spec;
 
 use crate::found::{find_job, find_leg, is_full, is_stopping, keep};

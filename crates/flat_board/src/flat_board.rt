@@ -1,10 +1,8 @@
 //! The flat body of the table: the board changed in place, with counters and an index of groups beside it.
 
-ghost use Rattle.std.specs.Prelude.{◌≡◌, ◌≤◌, true, Ok, Some, None, IfOk, OnOk};
-ghost use Rattle.flat_board.specs.Names.{IsGroup, IsName, IsNamed};
+ghost use Rattle.std.specs.Prelude.{◌≡◌, Ok, IfOk};
+ghost use Rattle.flat_board.specs.Words.{InPlay, IsGroup, IsName, IsNamed, new_play};
 ghost use Rattle.status_table.specs.Groups as spec;
-ghost use Rattle.status_table.specs.InPlay.{InPlay};
-ghost use Rattle.status_table.specs.Runs.{new_play};
 
 use crate::grouped_board::GroupedBoard;
 use crate::groups::{holder, leg_stand, next_after, run_stand, waiter};
@@ -24,16 +22,13 @@ pub struct FlatBoard {
 }
 
 impl Model for FlatBoard {
-    ghost use Rattle.std.specs.Coded.{codes};
-    ghost use Rattle.flow_model.specs.Plain.{coded_plain};
-    ghost use Rattle.status_table.specs.Play.{Play};
+    ghost use Rattle.flat_board.specs.Words.{Play, coded_plain, codes};
 
     ghost Value = { Play };
 
     ghost coded = { Prim.hlevel (codes, coded_plain) };
 
-    ghost use Rattle.board_counters.specs.Track.{play_of};
-    ghost use Rattle.flat_board.specs.Sound.{IsSound};
+    ghost use Rattle.flat_board.specs.Words.{IsSound, play_of};
 
     ghost view = { λ f. play_of f.play.state };
 
@@ -149,7 +144,7 @@ impl Table for FlatBoard {
 impl Reversible for FlatBoard {
     type Undo = Undo;
 
-    ghost use Rattle.flat_board.specs.Undo.{Fits, board_before};
+    ghost use Rattle.flat_board.specs.Words.{Fits, board_before};
 
     ghost fits = { Fits };
 

@@ -3,11 +3,7 @@
 ghost use Rattle.std.specs.Prelude.{◌≡◌, IfOk, IfSome, Some, option_map, slice_get};
 ghost use Rattle.board_decisions.specs.Decisions as decision;
 ghost use Rattle.board_decisions.specs.Derived as derived;
-ghost use Rattle.board_decisions.specs.Kept.{IsKeptOf};
-ghost use Rattle.board_decisions.specs.Numbered.{leg_there};
-ghost use Rattle.board_decisions.specs.Place.{job_at, leg_at};
-ghost use Rattle.board_decisions.specs.Seen.{job_seen, leg_seen};
-ghost use Rattle.board_counters.specs.Counters.{tally_of};
+ghost use Rattle.flat_board.specs.Words.{IsKeptOf, job_at, job_seen, leg_at, leg_seen, leg_there, tally_of};
 
 use board_counters::counted::job_of;
 use board_counters::{Counted, Tally};

@@ -1,10 +1,7 @@
 //! A plan in play with its groups beside it, and entries played on both.
 
 ghost use Rattle.std.specs.Prelude.{◌≡◌, ◌≤◌, IfOk, OnOk};
-ghost use Rattle.flat_board.specs.Index.{Follows, FollowsUnasked, most_changes};
-ghost use Rattle.flat_board.specs.Sound.{IsSound};
-ghost use Rattle.flat_board.specs.Undo.{RestoresGroups, board_before, cell_of};
-ghost use Rattle.status_table.specs.Reversible.{answer_of, done_of};
+ghost use Rattle.flat_board.specs.Words.{Follows, FollowsUnasked, IsSound, RestoresGroups, answer_of, board_before, cell_of, done_of, most_changes};
 
 use crate::undo::{CellBack, Undo, make_back};
 use board_counters::Tracked;

@@ -3,28 +3,9 @@
 //! Memory is asked for first; what comes after it changes the board in place.
 
 ghost use Rattle.std.specs.Prelude.{◌≡◌, ◌≤◌, ℕ, List, None, Ok, OnOk, Option, Result, Some, false};
-ghost use Rattle.board_decisions.specs.Numbered.{leg_there as leg_there_of};
-ghost use Rattle.board_decisions.specs.Place.{LegAt};
-ghost use Rattle.board_decisions.specs.declared.entrance.Entrance.{Entrance as EntranceOf};
-ghost use Rattle.expr_value.specs.Answer.{Gives};
-ghost use Rattle.flat_board.specs.Events.{Moved};
-ghost use Rattle.flat_board.specs.Index.{AsksNamed, EntersNamed, Keeps, entered};
-ghost use Rattle.flat_board.specs.Names.{IsGroup, IsName, group_at};
-ghost use Rattle.flat_board.specs.Stands.{StandsOnlyThere, standing_by};
-ghost use Rattle.flat_board.specs.Undo.{Leaves};
-ghost use Rattle.flat_board.specs.declared.groups.Stand.{Stand as StandOf};
-ghost use Rattle.flow_model.specs.declared.board.Board.{Board as BoardOf};
-ghost use Rattle.flow_model.specs.declared.board.Leg.{Leg as LegOf};
+ghost use Rattle.flat_board.specs.Words.{Answers, AsksNamed, Board as BoardOf, EntersNamed, Entrance as EntranceOf, Gives, IsGroup, IsName, Keeps, KeptAsShown, Leaves, Leg as LegOf, LegAt, Moved, Stand as StandOf, StandsOnlyThere, ValueFault as ValueFaultOf, after_enter, asked, content, entered, group_at, is_in_group, leg_enters, leg_there as leg_there_of, opened, run_enters, standing_by, value_at};
 ghost use Rattle.flow_model.specs.declared.event.Member.TheVariants as member;
-ghost use Rattle.flow_model.specs.declared.reply.ValueFault.{ValueFault as ValueFaultOf};
-ghost use Rattle.flow_model.specs.Mapping.{value_at};
-ghost use Rattle.group_admission.specs.Content.{after_enter, is_in_group};
-ghost use Rattle.group_admission.specs.Known.{content};
-ghost use Rattle.status_table.specs.Admissions.{asked, opened};
-ghost use Rattle.status_table.specs.Answers.{Answers};
-ghost use Rattle.status_table.specs.Grouped.{KeptAsShown};
 ghost use Rattle.status_table.specs.Groups as spec;
-ghost use Rattle.status_table.specs.Row.{leg_enters, run_enters};
 
 use crate::grouped_board::GroupedBoard;
 use crate::members::{admit, close_run, delay, drop_leg, forget_end, note_end, put_out, stop};

@@ -3,8 +3,7 @@
 ghost use Rattle.std.specs.Prelude.{◌≡◌, ◌+◌, ◌<◌, ℕ, Some, false, slice_get};
 ghost use Rattle.flat_board.specs.Idle as spec;
 ghost use Rattle.flow_model.specs.declared.event.Event.TheVariants as event;
-ghost use Rattle.status_table.specs.Kinds.{event_of};
-ghost use Rattle.status_table.specs.Moves.{accepts};
+ghost use Rattle.flat_board.specs.Words.{accepts, event_of};
 
 use board_counters::Counted;
 use board_decisions::place::item_at;

@@ -1,13 +1,9 @@
 //! Changes of one member of a concurrency group, and of the legs that ended, with the counters.
 
 ghost use Rattle.std.specs.Prelude.{◌≡◌, ◌≤◌, ◌+◌, true, Some, OnOk, OnErr};
-ghost use Rattle.flat_board.specs.Events.{Turned};
-ghost use Rattle.flow_model.specs.declared.board.Board.{Board as BoardOf};
+ghost use Rattle.flat_board.specs.Words.{Board as BoardOf, Turned, leg_after, leg_ended, noted, put_out as put_out_of, with_numbered_leg};
 ghost use Rattle.flow_model.specs.declared.event.Member.TheVariants as member;
 ghost use Rattle.status_table.specs.Groups as spec;
-ghost use Rattle.status_table.specs.Change.{with_numbered_leg};
-ghost use Rattle.status_table.specs.Row.{leg_ended};
-ghost use Rattle.status_table.specs.Seen.{leg_after, noted, put_out as put_out_of};
 
 use board_counters::{RunChange, Tracked};
 use board_decisions::place::LegPlace;

@@ -1,10 +1,8 @@
 //! What a clerk may do: those of its events that the table accepts, by the counters.
 
 ghost use Rattle.std.specs.Prelude.{◌≡◌, ◌++◌, IfOk, List, filter, length, slice_get};
-ghost use Rattle.flow_model.specs.Numbers.{board_jobs, board_legs};
-ghost use Rattle.flow_model.specs.declared.event.Event.{Event as EventOf};
+ghost use Rattle.flat_board.specs.Words.{Event as EventOf, InPlay, board_jobs, board_legs};
 ghost use Rattle.flow_model.specs.declared.event.Event.TheVariants as event;
-ghost use Rattle.status_table.specs.InPlay.{InPlay};
 ghost use Rattle.status_table.specs.Kinds as spec;
 ghost use Rattle.status_table.specs.Moves as rule;
 

@@ -4,10 +4,8 @@
 //! known as they are played, and is given by itself.
 
 ghost use Rattle.std.specs.Prelude.{◌≡◌, ◌≤◌, OnOk};
-ghost use Rattle.flat_board.specs.Events.{Led};
+ghost use Rattle.flat_board.specs.Words.{Leads, Led, begin_row};
 ghost use Rattle.flow_model.specs.declared.event.Event.TheVariants as event;
-ghost use Rattle.status_table.specs.Row.{begin_row};
-ghost use Rattle.status_table.specs.Unasked.{Leads};
 
 use crate::found::{find_leg, keep};
 use crate::grouped_board::GroupedBoard;

@@ -1,12 +1,8 @@
 //! What takes an entry back.
 
 ghost use Rattle.std.specs.Prelude.{◌≡◌, option_and_then, option_map};
-ghost use Rattle.board_decisions.specs.Numbered.{leg_there as leg_there_of};
-ghost use Rattle.flat_board.specs.Names.{group_at};
-ghost use Rattle.flat_board.specs.Undo.{board_before, cell_of, groups_put_back};
+ghost use Rattle.flat_board.specs.Words.{EachOnce, board_before, cell_of, content, group_at, groups_put_back, leg_there as leg_there_of};
 ghost use Rattle.flow_model.specs.declared.event.Member.TheVariants as member;
-ghost use Rattle.group_admission.specs.Content.{EachOnce};
-ghost use Rattle.group_admission.specs.Known.{content};
 
 use crate::grouped_board::GroupedBoard;
 use board_counters::{Changes, Counted, OnlyChange};

@@ -1,5 +1,5 @@
 use Rattle.std.proofs.Common.{◌≡◌, true, rules, slice_get}
-use Rattle.board_counters.specs.Changes.{state_there}
+use Rattle.board_counters.specs.Words.{state_there}
 use Rattle.board_counters.proofs.Followed.{came_alike}
 use Rattle.board_counters.proofs.counted.recount_to.Goals as goal
 

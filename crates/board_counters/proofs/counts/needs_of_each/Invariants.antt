@@ -1,5 +1,5 @@
 use Rattle.std.proofs.Common.{◌≡◌, ◌++◌, drop}
-use Rattle.board_counters.specs.Counters.{needs_of}
+use Rattle.board_counters.specs.Words.{needs_of}
 use Rattle.board_counters.proofs.counts.needs_of_each.Given as goal
 
 abbrev pub invariant-loop-place : goal.invariant-loop-place

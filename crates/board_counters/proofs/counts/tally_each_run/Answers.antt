@@ -1,4 +1,4 @@
-use Rattle.board_counters.specs.Standing.{run_tally}
+use Rattle.board_counters.specs.Words.{run_tally}
 use Rattle.board_counters.proofs.Lists.{made-more}
 use Rattle.board_counters.proofs.counts.tally_each_run.Goals as goal
 

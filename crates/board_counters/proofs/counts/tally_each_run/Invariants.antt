@@ -1,5 +1,5 @@
 use Rattle.std.proofs.Common.{◌≡◌, ◌++◌, map, drop}
-use Rattle.board_counters.specs.Standing.{run_tally}
+use Rattle.board_counters.specs.Words.{run_tally}
 use Rattle.board_counters.proofs.counts.tally_each_run.Given as goal
 
 abbrev pub invariant-loop-place : goal.invariant-loop-place

@@ -1,6 +1,5 @@
 use Rattle.std.proofs.Common.{◌≡◌, ◌++◌, drop}
-use Rattle.status_table.specs.Words.{run_sizes}
-use Rattle.board_counters.specs.Dependents.{all_dependents}
+use Rattle.board_counters.specs.Words.{all_dependents, run_sizes}
 use Rattle.board_counters.proofs.dependents.all_dependents.Given as goal
 
 abbrev pub invariant-loop-place : goal.invariant-loop-place

@@ -1,5 +1,5 @@
 use Rattle.std.proofs.Common.{◌≡◌, drop}
-use Rattle.board_counters.specs.Dependents.{noted}
+use Rattle.board_counters.specs.Words.{noted}
 use Rattle.board_counters.proofs.dependents.note_needs.Given as goal
 
 abbrev pub invariant-loop-need : goal.invariant-loop-need

@@ -1,7 +1,6 @@
 use Rattle.std.proofs.Common.{◌≤◌, List, length, ap, sym, ◌∙◌, arith}
 use Rattle.std.proofs.Math.ListN.{drop_of_length-le}
-use Rattle.status_table.specs.Words.{JobPlan}
-use Rattle.board_counters.specs.Dependents.{all_noted}
+use Rattle.board_counters.specs.Words.{JobPlan, all_noted}
 use Rattle.board_counters.proofs.Depending.{noted_all}
 use Rattle.board_counters.proofs.dependents.run_dependents.Goals as goal
 

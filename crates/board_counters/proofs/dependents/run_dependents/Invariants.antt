@@ -1,5 +1,5 @@
 use Rattle.std.proofs.Common.{◌≡◌, drop}
-use Rattle.board_counters.specs.Dependents.{all_noted}
+use Rattle.board_counters.specs.Words.{all_noted}
 use Rattle.board_counters.proofs.dependents.run_dependents.Given as goal
 
 abbrev pub invariant-loop-place : goal.invariant-loop-place

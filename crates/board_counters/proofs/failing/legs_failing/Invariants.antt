@@ -1,5 +1,5 @@
 use Rattle.std.proofs.Common.{◌≡◌, take, map}
-use Rattle.board_counters.specs.Failing.{leg_failing}
+use Rattle.board_counters.specs.Words.{leg_failing}
 use Rattle.board_counters.proofs.failing.legs_failing.Given as goal
 
 abbrev pub invariant-loop-leg : goal.invariant-loop-leg

@@ -1,5 +1,5 @@
 use Rattle.std.proofs.Common.{◌≡◌, take, map}
-use Rattle.board_counters.specs.Failing.{run_failing}
+use Rattle.board_counters.specs.Words.{run_failing}
 use Rattle.board_counters.proofs.failing.runs_failing.Given as goal
 
 abbrev pub invariant-loop-run : goal.invariant-loop-run

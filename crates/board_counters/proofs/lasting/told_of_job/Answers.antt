@@ -1,4 +1,4 @@
-use Rattle.status_table.specs.Words.{AreCallsOf}
+use Rattle.board_counters.specs.Words.{AreCallsOf}
 use Rattle.board_counters.proofs.Placed.{zip-more}
 use Rattle.board_counters.proofs.lasting.told_of_job.Goals as goal
 

@@ -1,6 +1,5 @@
 use Rattle.std.proofs.Common.{take}
-use Rattle.std.specs.List.{AllZip}
-use Rattle.status_table.specs.Words.{AreCallsOf}
+use Rattle.board_counters.specs.Words.{AllZip, AreCallsOf}
 use Rattle.board_counters.proofs.lasting.told_of_job.Given as goal
 
 abbrev pub invariant-loop-step : goal.invariant-loop-step

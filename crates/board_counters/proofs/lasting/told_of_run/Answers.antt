@@ -1,4 +1,4 @@
-use Rattle.board_counters.specs.Lasting.{TellsSteps}
+use Rattle.board_counters.specs.Words.{TellsSteps}
 use Rattle.board_counters.proofs.Placed.{zip-more}
 use Rattle.board_counters.proofs.lasting.told_of_run.Goals as goal
 

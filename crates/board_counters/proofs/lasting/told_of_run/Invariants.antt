@@ -1,6 +1,5 @@
 use Rattle.std.proofs.Common.{take}
-use Rattle.std.specs.List.{AllZip}
-use Rattle.board_counters.specs.Lasting.{TellsSteps}
+use Rattle.board_counters.specs.Words.{AllZip, TellsSteps}
 use Rattle.board_counters.proofs.lasting.told_of_run.Given as goal
 
 abbrev pub invariant-loop-job : goal.invariant-loop-job

@@ -1,4 +1,4 @@
-use Rattle.board_counters.specs.Lasting.{TellsJobs}
+use Rattle.board_counters.specs.Words.{TellsJobs}
 use Rattle.board_counters.proofs.Placed.{zip-more}
 use Rattle.board_counters.proofs.lasting.told_of_runs.Goals as goal
 

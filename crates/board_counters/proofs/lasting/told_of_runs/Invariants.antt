@@ -1,5 +1,5 @@
 use Rattle.std.proofs.Common.{take}
-use Rattle.board_counters.specs.Lasting.{TellsRuns}
+use Rattle.board_counters.specs.Words.{TellsRuns}
 use Rattle.board_counters.proofs.lasting.told_of_runs.Given as goal
 
 abbrev pub invariant-loop-run : goal.invariant-loop-run

@@ -1,5 +1,5 @@
 use Rattle.std.proofs.Common.{◌≡◌, ◌≤◌, take}
-use Rattle.board_counters.specs.Counters.{open_among, settled_jobs}
+use Rattle.board_counters.specs.Words.{open_among, settled_jobs}
 use Rattle.board_counters.proofs.need.count_open.Given as goal
 
 abbrev pub invariant-loop-need : goal.invariant-loop-need

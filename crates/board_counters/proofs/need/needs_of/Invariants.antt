@@ -1,5 +1,5 @@
 use Rattle.std.proofs.Common.{◌≡◌, take, map}
-use Rattle.board_counters.specs.Counters.{need_of, settled_jobs}
+use Rattle.board_counters.specs.Words.{need_of, settled_jobs}
 use Rattle.board_counters.proofs.need.needs_of.Given as goal
 
 abbrev pub invariant-loop-plan : goal.invariant-loop-plan

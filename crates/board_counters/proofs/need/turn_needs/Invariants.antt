@@ -1,5 +1,5 @@
 use Rattle.std.proofs.Common.{◌≡◌, drop}
-use Rattle.board_counters.specs.Changes.{needs_turned}
+use Rattle.board_counters.specs.Words.{needs_turned}
 use Rattle.board_counters.proofs.need.turn_needs.Given as goal
 
 abbrev pub invariant-loop-place : goal.invariant-loop-place

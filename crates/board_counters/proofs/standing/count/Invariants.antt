@@ -1,5 +1,5 @@
 use Rattle.std.proofs.Common.{◌≡◌, ◌≤◌, take}
-use Rattle.board_counters.specs.Standing.{counted_jobs}
+use Rattle.board_counters.specs.Words.{counted_jobs}
 use Rattle.board_counters.proofs.standing.count.Given as goal
 
 abbrev pub invariant-loop-place : goal.invariant-loop-place

@@ -1,5 +1,5 @@
 use Rattle.std.proofs.Common.{◌≡◌, ◌≤◌, take}
-use Rattle.board_counters.specs.Counters.{counted}
+use Rattle.board_counters.specs.Words.{counted}
 use Rattle.board_counters.proofs.tally.count.Given as goal
 
 abbrev pub invariant-loop-leg : goal.invariant-loop-leg

@@ -1,5 +1,5 @@
 use Rattle.std.proofs.Common.{◌≡◌, length}
-use Rattle.board_counters.specs.Undo.{undone}
+use Rattle.board_counters.specs.Words.{undone}
 use Rattle.board_counters.proofs.tracked.take_all_back.Given as goal
 
 -- what is left leads from here to where all lead from there

@@ -1,12 +1,8 @@
 use Rattle.std.proofs.Common.{◌↔◌, ℕ, ◌+◌, ◌≤◌, List, Option, option_map, length, drop, ap, refl, subst, subst₂, sym, ◌∙◌, arith, rules}
-use Rattle.std.specs.List.{AllZip}
-use Rattle.status_table.specs.Words.{Run, RunPlan, RunShape, run_seen}
-use Rattle.board_settled.specs.Runs.{RunComes}
+use Rattle.board_settled.specs.Words.{AllZip, Run, RunComes, RunIsSettled, RunPlan, RunShape, run_seen, run_settled, runs_from, settled}
 use Rattle.board_settled.proofs.Loops.{ends_here, goes_on}
 use Rattle.board_settled.proofs.Runs.{left_run}
 use Rattle.std.proofs.lemmas.List.{drop_all}
-use Rattle.board_settled.specs.Agrees.{RunIsSettled}
-use Rattle.board_settled.specs.Settled.{run_settled, runs_from, settled}
 use Rattle.status_table.proofs.Lists.{zip-length}
 use Rattle.board_settled.proofs.check.are_runs_settled.Goals as goal
 

@@ -1,8 +1,5 @@
 use Rattle.std.proofs.Common.{◌↔◌, drop}
-use Rattle.std.specs.List.{AllZip}
-use Rattle.board_settled.specs.Alone.{ByAnswers}
-use Rattle.board_settled.specs.Agrees.{RunIsSettled}
-use Rattle.board_settled.specs.Settled.{runs_from}
+use Rattle.board_settled.specs.Words.{AllZip, ByAnswers, RunIsSettled, runs_from}
 use Rattle.board_settled.proofs.check.are_runs_settled.Given as goal
 
 -- The runs that are left are settled where all are.

@@ -1,12 +1,8 @@
 use Rattle.std.proofs.Common.{◌↔◌, IsTrue, List, refl, subst, subst₂, sym}
-use Rattle.std.specs.List.{AllZip}
+use Rattle.board_settled.specs.Words.{AllZip, IsQuiet, Plan, Run, RunIsSettled, settled}
 use Rattle.std.proofs.lemmas.Result.{IfOk-weaker}
-use Rattle.status_table.specs.Words.{Plan, Run}
 use Rattle.board_settled.proofs.Loops.{through}
 use Rattle.board_settled.proofs.Runs.{is_quiet, quiet_settled, zip-quiet}
-use Rattle.board_settled.specs.Agrees.{RunIsSettled}
-use Rattle.board_settled.specs.Runs.{IsQuiet}
-use Rattle.board_settled.specs.Settled.{settled}
 use Rattle.status_table.proofs.InPlay.{few_in_play}
 use Rattle.board_settled.proofs.check.is_settled.Goals as goal
 

@@ -1,6 +1,6 @@
 use Rattle.std.proofs.Common.{◌≡◌, ◌+◌, ◌<◌, length, rules}
 use Rattle.std.proofs.lemmas.Bool.{iff_false}
-use Rattle.status_table.specs.Words.{job_seen}
+use Rattle.board_settled.specs.Words.{job_seen}
 use Rattle.board_settled.proofs.Jobs.{left_leg}
 use Rattle.board_settled.proofs.Loops.{ends_here, goes_on}
 use Rattle.board_settled.proofs.job.are_legs_settled.Goals as goal

@@ -1,9 +1,5 @@
 use Rattle.std.proofs.Common.{◌↔◌, drop}
-use Rattle.std.specs.List.{AllZip}
-use Rattle.status_table.specs.Words.{job_seen, needs_value}
-use Rattle.board_settled.specs.Alone.{ByAnswers}
-use Rattle.board_settled.specs.Agrees.{LegIsSettled}
-use Rattle.board_settled.specs.Settled.{legs_from, legs_settled}
+use Rattle.board_settled.specs.Words.{AllZip, ByAnswers, LegIsSettled, job_seen, legs_from, legs_settled, needs_value}
 use Rattle.board_settled.proofs.job.are_legs_settled.Given as goal
 
 -- The legs that are left are settled where all are.

@@ -1,9 +1,8 @@
 use Rattle.std.proofs.Common.{◌≡◌, ◌↔◌, IsTrue, rules, sym, ◌∙◌}
 use Rattle.std.proofs.lemmas.Result.{IfOk-weaker}
-use Rattle.status_table.specs.Words.{JobState, job_seen, needs_value}
+use Rattle.board_settled.specs.Words.{JobState, job_seen, job_settled, legs_settled, needs_value}
 use Rattle.board_settled.proofs.Loops.{through}
 use Rattle.board_settled.proofs.Jobs.{judged_stands, open_settled, shut_settled}
-use Rattle.board_settled.specs.Settled.{legs_settled, job_settled}
 use Rattle.board_settled.proofs.job.is_job_settled.Goals as goal
 
 pub returns-in-Open : goal.returns-in-Open

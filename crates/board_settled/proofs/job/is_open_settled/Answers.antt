@@ -1,9 +1,6 @@
 use Rattle.std.proofs.Common.{◌≡◌, ◌↔◌, IsTrue, List, rules, subst}
-use Rattle.std.specs.List.{AllZip}
+use Rattle.board_settled.specs.Words.{AllZip, JobState, Leg, LegIsSettled, job_seen, legs_settled, needs_value}
 use Rattle.std.proofs.lemmas.Result.{IfOk-weaker}
-use Rattle.status_table.specs.Words.{JobState, Leg, job_seen, needs_value}
-use Rattle.board_settled.specs.Agrees.{LegIsSettled}
-use Rattle.board_settled.specs.Settled.{legs_settled}
 use Rattle.board_settled.proofs.job.is_open_settled.Goals as goal
 
 -- what a job needs is not told by its own state

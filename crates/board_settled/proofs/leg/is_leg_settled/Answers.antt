@@ -1,8 +1,7 @@
 use Rattle.std.proofs.Common.{Option, sym, subst}
 use Rattle.std.proofs.lemmas.Bool.{true≢false}
 use Rattle.std.proofs.lemmas.Result.{IfOk-weaker}
-use Rattle.status_table.specs.Words.{Leg, job_seen}
-use Rattle.board_settled.specs.Alone.{planned, StepsCome}
+use Rattle.board_settled.specs.Words.{Leg, StepsCome, job_seen, planned}
 use Rattle.board_settled.proofs.Loops.{through}
 use Rattle.board_settled.proofs.LegSteps.{unended, ends_settled}
 use Rattle.board_settled.proofs.leg.is_leg_settled.Goals as goal

@@ -1,8 +1,6 @@
 use Rattle.std.proofs.Common.{◌+◌, ◌<◌, ◌≤◌, List, [], ◌∷◌, length, drop, ap, sym, ◌∙◌, arith, rules}
 use Rattle.std.proofs.lemmas.List.{length-append, drop_all}
-use Rattle.status_table.specs.Words.{DoneStep, job_seen}
-use Rattle.board_settled.specs.Alone.{planned}
-use Rattle.board_settled.specs.Settled.{steps_from}
+use Rattle.board_settled.specs.Words.{DoneStep, job_seen, planned, steps_from}
 use Rattle.board_settled.proofs.LegSteps.{one_more, no_more}
 use Rattle.board_settled.proofs.leg.play_steps.Goals as goal
 

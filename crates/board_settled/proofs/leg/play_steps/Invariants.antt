@@ -1,7 +1,5 @@
 use Rattle.std.proofs.Common.{◌≡◌, [], length, drop}
-use Rattle.status_table.specs.Words.{job_seen}
-use Rattle.board_settled.specs.Alone.{ByAnswers, IsIdle, planned}
-use Rattle.board_settled.specs.Settled.{steps_from}
+use Rattle.board_settled.specs.Words.{ByAnswers, IsIdle, job_seen, planned, steps_from}
 use Rattle.board_settled.proofs.leg.play_steps.Given as goal
 
 -- So many steps are done, and what is settled goes on from there.

@@ -1,5 +1,5 @@
 use Rattle.std.proofs.Common.{subst}
-use Rattle.status_table.specs.Words.{Each}
+use Rattle.board_settled.specs.Words.{Each}
 use Rattle.board_settled.proofs.orders.each_in_order.Goals as goal
 
 pub returns : goal.returns

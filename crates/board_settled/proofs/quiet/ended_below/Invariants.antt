@@ -1,7 +1,5 @@
 use Rattle.std.proofs.Common.{◌≡◌}
-use Rattle.std.specs.List.{filter}
-use Rattle.status_table.specs.Words.{numbers}
-use Rattle.board_settled.specs.Quiet.{has_ended_at}
+use Rattle.board_settled.specs.Words.{filter, has_ended_at, numbers}
 use Rattle.board_settled.proofs.quiet.ended_below.Given as goal
 
 -- those of the numbers so far

@@ -1,7 +1,5 @@
 use Rattle.std.proofs.Common.{List, length, map, sum_by, ap, sym, ◌∙◌, arith}
-use Rattle.std.specs.List.{filter}
-use Rattle.status_table.specs.Words.{Board, Leg, Run, numbers}
-use Rattle.board_settled.specs.Quiet.{has_ended_at, quiet_run}
+use Rattle.board_settled.specs.Words.{Board, Leg, Run, filter, has_ended_at, numbers, quiet_run}
 use Rattle.board_settled.proofs.Outputs.{legs_quiet}
 use Rattle.status_table.proofs.Accepting.{legs_counted}
 use Rattle.board_settled.proofs.quiet.quiet_board.Goals as goal

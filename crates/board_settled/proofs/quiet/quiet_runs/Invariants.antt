@@ -1,5 +1,5 @@
 use Rattle.std.proofs.Common.{◌≡◌, map, take}
-use Rattle.board_settled.specs.Quiet.{quiet_run}
+use Rattle.board_settled.specs.Words.{quiet_run}
 use Rattle.board_settled.proofs.quiet.quiet_runs.Given as goal
 
 -- the runs so far

@@ -1,4 +1,4 @@
-use Rattle.step_host.specs.Entries.{IsKept, kept_one}
+use Rattle.board_settled.specs.Words.{IsKept, kept_one}
 use Rattle.board_settled.proofs.Records.{tells_settled}
 use Rattle.board_settled.proofs.record.replay_record.Goals as goal
 

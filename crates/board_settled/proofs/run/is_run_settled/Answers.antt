@@ -1,5 +1,5 @@
 use Rattle.std.proofs.Common.{◌≡◌, ◌+◌, ◌≤◌, length, rules}
-use Rattle.status_table.specs.Words.{RunState, run_result, run_seen}
+use Rattle.board_settled.specs.Words.{RunState, run_result, run_seen}
 use Rattle.board_settled.proofs.Runs.{size_job, stands_job, run_fails, one_more_job, next_number, run_comes, only_closed, last_number}
 use Rattle.board_settled.proofs.run.is_run_settled.Goals as goal
 

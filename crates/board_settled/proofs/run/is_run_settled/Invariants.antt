@@ -1,5 +1,5 @@
 use Rattle.std.proofs.Common.{◌≡◌, ◌+◌, take}
-use Rattle.board_settled.specs.Alone.{ByAnswers}
+use Rattle.board_settled.specs.Words.{ByAnswers}
 use Rattle.board_settled.proofs.Runs.{JobsAreSettled}
 use Rattle.board_settled.proofs.Numbers.{before_job}
 use Rattle.board_settled.proofs.Played.{jobs_of}

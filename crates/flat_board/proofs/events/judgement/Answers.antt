@@ -1,5 +1,5 @@
 use Rattle.std.proofs.Common.{◌≡◌, ℕ, true, false, Ok, refl, ap, sym, subst, ◌∙◌}
-use Rattle.status_table.specs.Words.{Gives, JobState, StandsAfterNeeds, Status, first_of, is_going, job_condition, job_seen, job_status}
+use Rattle.flat_board.specs.Words.{Gives, JobState, StandsAfterNeeds, Status, first_of, is_going, job_condition, job_seen, job_status}
 use Rattle.flat_board.proofs.Reached.{judged_by}
 use Rattle.status_table.proofs.Sound.{stands_after_needs}
 use Rattle.flat_board.proofs.events.judgement.Goals as goal

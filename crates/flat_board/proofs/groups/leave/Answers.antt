@@ -1,7 +1,5 @@
 use Rattle.std.proofs.Common.{◌≡◌, List, ℕ, Option, inl, ap, subst, sym, ◌∙◌, refl}
-use Rattle.status_table.specs.Words.{content, fold, holder_of, left, value_at, waiter_of}
-use Rattle.flat_board.specs.Stands.{StandsOnlyThere, standing_by}
-use Rattle.flat_board.specs.Names.{IsGroup}
+use Rattle.flat_board.specs.Words.{IsGroup, StandsOnlyThere, content, fold, holder_of, left, standing_by, value_at, waiter_of}
 use Rattle.flat_board.proofs.Leaving.{name_left, none_left, others_left}
 use Rattle.flat_board.proofs.groups.leave.Goals as goal
 

@@ -1,9 +1,6 @@
 use Rattle.std.proofs.Common.{◌≡◌, ap, subst, sym, ◌∙◌}
-use Rattle.status_table.specs.Words.{Leg, Member, content}
+use Rattle.flat_board.specs.Words.{IsGroup, Leaves, Leg, Member, StandsOnlyThere, content, standing_by}
 use Rattle.board_decisions.proofs.Lists.{same_some}
-use Rattle.flat_board.specs.Names.{IsGroup}
-use Rattle.flat_board.specs.Stands.{StandsOnlyThere, standing_by}
-use Rattle.flat_board.specs.Undo.{Leaves}
 use Rattle.flat_board.proofs.groups.leave_leg.Goals as goal
 
 pub returns-in-Some-clause-leaves : goal.returns-in-Some-clause-leaves

@@ -1,6 +1,5 @@
 use Rattle.std.proofs.Common.{ap, sym, subst, ◌∙◌}
-use Rattle.status_table.specs.Words.{content, fold, waiter_of}
-use Rattle.flat_board.specs.Names.{IsGroup}
+use Rattle.flat_board.specs.Words.{IsGroup, content, fold, waiter_of}
 use Rattle.flat_board.proofs.Index.{waiter_told}
 use Rattle.status_table.specs.Groups.{waiter_of as waiter_of_group}
 use Rattle.flat_board.proofs.groups.waiter_of.Goals as goal

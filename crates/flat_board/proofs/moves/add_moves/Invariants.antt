@@ -1,5 +1,5 @@
 use Rattle.std.proofs.Common.{◌≡◌, ◌++◌, filter}
-use Rattle.status_table.specs.Words.{accepts, events_of}
+use Rattle.flat_board.specs.Words.{accepts, events_of}
 use Rattle.flat_board.proofs.moves.add_moves.Given as goal
 
 abbrev pub invariant-loop-number : goal.invariant-loop-number

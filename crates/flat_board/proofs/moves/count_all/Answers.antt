@@ -1,5 +1,5 @@
 use Rattle.std.proofs.Common.{length, sum_by, ap, ◌∙◌, arith}
-use Rattle.status_table.specs.Words.{Board, Run}
+use Rattle.flat_board.specs.Words.{Board, Run}
 use Rattle.status_table.proofs.Accepting.{jobs_counted, legs_counted}
 use Rattle.status_table.proofs.InPlay.{few_in_play, few_jobs_in_play}
 use Rattle.flat_board.proofs.moves.count_all.Goals as goal

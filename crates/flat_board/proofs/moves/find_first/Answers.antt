@@ -1,7 +1,6 @@
 use Rattle.std.proofs.Common.{◌++◌, List, filter, slice_get, ap, ◌∙◌}
 use Rattle.std.proofs.lemmas.Result.{IfOk-weaker}
-use Rattle.status_table.specs.Words.{Event, accepts, events_of}
-use Rattle.status_table.specs.declared.moves.MoveKind.{MoveKind}
+use Rattle.flat_board.specs.Words.{Event, MoveKind, accepts, events_of}
 use Rattle.flat_board.proofs.FirstMove.{kind_by_kind}
 use Rattle.flat_board.proofs.moves.find_first.Goals as goal
 

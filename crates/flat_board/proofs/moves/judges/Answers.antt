@@ -1,5 +1,5 @@
 use Rattle.std.proofs.Common.{refl, ap, sym}
-use Rattle.status_table.specs.Words.{is_going, job_seen}
+use Rattle.flat_board.specs.Words.{is_going, job_seen}
 use Rattle.flat_board.proofs.Reached.{judge_accepted}
 use Rattle.flat_board.proofs.moves.judges.Goals as goal
 

@@ -1,8 +1,5 @@
 use Rattle.std.proofs.Common.{◌≡◌, Some, List, ℕ, Option, sym, subst}
-use Rattle.status_table.specs.Words.{EachOnce, content}
-use Rattle.flat_board.specs.Names.{group_at}
-use Rattle.flat_board.specs.Undo.{groups_put_back, name_put_back}
-use Rattle.flat_board.specs.declared.undo.CellBack.{CellBack}
+use Rattle.flat_board.specs.Words.{CellBack, EachOnce, content, group_at, groups_put_back, name_put_back}
 use Rattle.flat_board.proofs.undo.put_back.Goals as goal
 
 pub put_back-requires : goal.put_back-requires

@@ -1,5 +1,5 @@
 use Rattle.std.proofs.Common.{false, [], ◌∷◌, ◌++◌, refl}
-use Rattle.status_table.specs.Words.{Leg, LegState}
+use Rattle.board_counters.specs.Words.{Leg, LegState}
 use Rattle.board_counters.proofs.Failings.{failing_done}
 use Rattle.board_counters.proofs.Followed.{leg_counted}
 use Rattle.board_counters.proofs.Stops.{leg_told_kept}

@@ -1,5 +1,5 @@
 use Rattle.std.proofs.Common.{◌≡◌, Some, slice_get, sym, subst}
-use Rattle.status_table.specs.Words.{AreCallsOf, Calls, JobPlan, Play, RunPlan, StepPlan}
+use Rattle.board_counters.specs.Words.{AreCallsOf, Calls, JobPlan, Play, RunPlan, StepPlan}
 use Rattle.board_counters.proofs.Placed.{calls_told}
 use Rattle.board_counters.proofs.counted.Counted.calls.Goals as goal
 

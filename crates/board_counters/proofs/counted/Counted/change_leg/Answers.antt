@@ -1,10 +1,8 @@
 use Rattle.std.proofs.Common.{ap, sym, ◌∙◌}
-use Rattle.status_table.specs.Words.{changed, leg_after}
-use Rattle.board_counters.specs.Failing.{any_failed, failing_of}
+use Rattle.board_counters.specs.Words.{any_failed, changed, failing_of, leg_after, told_turned}
 use Rattle.board_counters.proofs.Failings.{leg_failing_kept, steps_stay}
 use Rattle.board_counters.proofs.Followed.{leg_counted}
 use Rattle.board_counters.proofs.Stops.{told_exchanged}
-use Rattle.board_counters.specs.Stopping.{told_turned}
 use Rattle.board_counters.proofs.Tallies.{exchanged_told}
 use Rattle.board_counters.proofs.counted.Counted.change_leg.Goals as goal
 

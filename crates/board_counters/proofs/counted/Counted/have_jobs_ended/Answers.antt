@@ -1,5 +1,5 @@
 use Rattle.std.proofs.Common.{◌==◌, ap, ◌∙◌}
-use Rattle.board_counters.specs.declared.standing.RunTally.{RunTally}
+use Rattle.board_counters.specs.Words.{RunTally}
 use Rattle.board_counters.proofs.Standings.{ended_told}
 use Rattle.board_counters.proofs.counted.Counted.have_jobs_ended.Goals as goal
 

@@ -1,6 +1,5 @@
 use Rattle.std.proofs.Common.{◌≡◌, ℕ, true, Some, sym, subst, ◌∙◌}
-use Rattle.status_table.specs.Words.{InPlay, JobAt, Play, first_of, is_going, job_at, needs_have_ended}
-use Rattle.board_counters.specs.Counters.{needs_none, needs_there}
+use Rattle.board_counters.specs.Words.{InPlay, JobAt, Play, first_of, is_going, job_at, needs_have_ended, needs_none, needs_there}
 use Rattle.board_counters.proofs.Ended.{needs_told}
 use Rattle.board_counters.proofs.counted.Counted.have_needs_ended.Goals as goal
 

@@ -1,11 +1,6 @@
 use Rattle.std.proofs.Common.{◌≤◌, List, map, sum_by, ap, sym, subst, ◌∙◌}
-use Rattle.status_table.specs.Words.{Run}
-use Rattle.board_counters.specs.Counters.{tally_of, needs_of}
-use Rattle.board_counters.specs.Failing.{run_failing}
-use Rattle.board_counters.specs.Lasting.{IsLasting}
-use Rattle.board_counters.specs.Standing.{run_tally}
+use Rattle.board_counters.specs.Words.{IsLasting, Run, legs_of_jobs, needs_of, run_failing, run_tally, tally_of, untold_legs}
 use Rattle.board_counters.proofs.Stops.{new_few, new_told}
-use Rattle.board_counters.specs.Stopping.{legs_of_jobs, untold_legs}
 use Rattle.board_counters.proofs.counted.Counted.new.Goals as goal
 
 pub count_all-requires : goal.count_all-requires

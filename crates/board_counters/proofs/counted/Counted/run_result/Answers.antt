@@ -1,5 +1,5 @@
 use Rattle.std.proofs.Common.{◌∙◌}
-use Rattle.board_counters.specs.Standing.{told_result}
+use Rattle.board_counters.specs.Words.{told_result}
 use Rattle.board_counters.proofs.Standings.{result_told}
 use Rattle.board_counters.proofs.counted.Counted.run_result.Goals as goal
 

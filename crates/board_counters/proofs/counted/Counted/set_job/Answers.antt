@@ -1,5 +1,5 @@
 use Rattle.std.proofs.Common.{ap, slice_get, ◌∙◌}
-use Rattle.board_counters.specs.Standing.{standing_read}
+use Rattle.board_counters.specs.Words.{standing_read}
 use Rattle.board_counters.proofs.Followed.{job_counted}
 use Rattle.board_counters.proofs.counted.Counted.set_job.Goals as goal
 

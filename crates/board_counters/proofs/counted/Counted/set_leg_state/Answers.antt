@@ -1,6 +1,5 @@
 use Rattle.std.proofs.Common.{ap, refl, sym, ◌∙◌}
-use Rattle.status_table.specs.Words.{Leg}
-use Rattle.board_counters.specs.Failing.{failing_of}
+use Rattle.board_counters.specs.Words.{Leg, failing_of}
 use Rattle.board_counters.proofs.Failings.{leg_failing_kept}
 use Rattle.board_counters.proofs.Followed.{leg_counted}
 use Rattle.board_counters.proofs.Stops.{leg_told_kept}

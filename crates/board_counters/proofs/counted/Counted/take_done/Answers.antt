@@ -1,5 +1,5 @@
 use Rattle.std.proofs.Common.{refl}
-use Rattle.board_counters.specs.Changes.{step_taken}
+use Rattle.board_counters.specs.Words.{step_taken}
 use Rattle.board_counters.proofs.Failings.{failing_off}
 use Rattle.board_counters.proofs.Followed.{leg_counted}
 use Rattle.board_counters.proofs.Stops.{leg_told_kept}

@@ -1,6 +1,5 @@
 use Rattle.std.proofs.Common.{subst}
-use Rattle.status_table.specs.Words.{Play}
-use Rattle.flat_board.specs.Names.{IsNamed}
+use Rattle.flat_board.specs.Words.{IsNamed, Play}
 use Rattle.flat_board.proofs.Known.{board_named}
 use Rattle.flat_board.proofs.flat_board.FlatBoard.board.Goals as goal
 

@@ -1,5 +1,5 @@
 use Rattle.std.proofs.Common.{ap, subst, ◌∙◌}
-use Rattle.status_table.specs.Words.{IsPlan, Play, SoundPlan}
+use Rattle.flat_board.specs.Words.{IsPlan, Play, SoundPlan}
 use Rattle.flat_board.proofs.Playing.{new_sound}
 use Rattle.flat_board.proofs.flat_board.FlatBoard.from_plan.Goals as goal
 

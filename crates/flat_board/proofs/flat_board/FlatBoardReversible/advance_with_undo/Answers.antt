@@ -1,10 +1,8 @@
-use Rattle.std.proofs.Common.{◌≡◌, subst}
-use Rattle.std.specs.Prelude.{IfOk}
-use Rattle.status_table.specs.Words.{Play, Plays, Stays, done_of}
+use Rattle.std.proofs.Common.{◌≡◌, subst, IfOk}
+use Rattle.flat_board.specs.Words.{Play, Plays, Stays, board_before, done_of}
 use Rattle.flat_board.proofs.Back.{fits_unasked}
 use Rattle.flat_board.proofs.Playing.{plays_unasked, sound_after, stays_after}
 use Rattle.flat_board.proofs.flat_board.FlatBoardReversible.advance_with_undo.Goals as goal
-use Rattle.flat_board.specs.Undo.{board_before}
 
 pub invariant_of-self : goal.invariant_of-self
 invariant_of-self c =

@@ -1,10 +1,8 @@
-use Rattle.std.proofs.Common.{◌≡◌, subst}
-use Rattle.std.specs.Prelude.{IfOk}
-use Rattle.status_table.specs.Words.{Play, Stays, answer_of}
+use Rattle.std.proofs.Common.{◌≡◌, subst, IfOk}
+use Rattle.flat_board.specs.Words.{Play, Stays, answer_of, board_before}
 use Rattle.flat_board.proofs.Back.{fits_all}
 use Rattle.flat_board.proofs.Playing.{sound_after, stays_after}
 use Rattle.flat_board.proofs.flat_board.FlatBoardReversible.apply_with_undo.Goals as goal
-use Rattle.flat_board.specs.Undo.{board_before}
 
 pub invariant_of-self : goal.invariant_of-self
 invariant_of-self c =

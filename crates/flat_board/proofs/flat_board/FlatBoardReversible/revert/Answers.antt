@@ -1,6 +1,5 @@
 use Rattle.std.proofs.Common.{subst, sym}
-use Rattle.status_table.specs.Words.{Play}
-use Rattle.flat_board.specs.Undo.{Fits}
+use Rattle.flat_board.specs.Words.{Fits, Play}
 use Rattle.flat_board.proofs.Back.{sound_before}
 use Rattle.flat_board.proofs.flat_board.FlatBoardReversible.revert.Goals as goal
 

@@ -1,5 +1,5 @@
 use Rattle.std.proofs.Common.{subst}
-use Rattle.status_table.specs.Words.{Play, Plays, Stays}
+use Rattle.flat_board.specs.Words.{Play, Plays, Stays}
 use Rattle.flat_board.proofs.Playing.{plays_unasked, sound_after, stays_after}
 use Rattle.flat_board.proofs.flat_board.FlatBoardTable.advance.Goals as goal
 

@@ -1,5 +1,5 @@
 use Rattle.std.proofs.Common.{subst}
-use Rattle.status_table.specs.Words.{Play, Stays}
+use Rattle.flat_board.specs.Words.{Play, Stays}
 use Rattle.flat_board.proofs.Playing.{sound_after, stays_after}
 use Rattle.flat_board.proofs.flat_board.FlatBoardTable.apply.Goals as goal
 

@@ -1,5 +1,5 @@
 use Rattle.std.proofs.Common.{refl}
-use Rattle.status_table.specs.Words.{Event}
+use Rattle.flat_board.specs.Words.{Event}
 use Rattle.flat_board.proofs.Playing.{led_unasked}
 use Rattle.flat_board.proofs.grouped_board.GroupedBoard.advance_event.Goals as goal
 

@@ -1,6 +1,5 @@
 use Rattle.std.proofs.Common.{◌≡◌, Option, Some, refl, rules, subst, sym, ◌∙◌}
-use Rattle.status_table.specs.Words.{LegAt, Play, answer_of, content, leg_asked, leg_at, leg_entrance, leg_seen}
-use Rattle.flat_board.specs.Index.{Goes}
+use Rattle.flat_board.specs.Words.{Goes, LegAt, Play, answer_of, content, leg_asked, leg_at, leg_entrance, leg_seen}
 use Rattle.flat_board.proofs.Named.{given_named, leg_asks}
 use Rattle.flat_board.proofs.Reached.{asks_outside}
 use Rattle.flat_board.proofs.grouped_board.GroupedBoard.ask.Goals as goal

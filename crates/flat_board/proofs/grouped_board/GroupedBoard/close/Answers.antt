@@ -1,5 +1,5 @@
 use Rattle.std.proofs.Common.{◌≡◌, Some, ap, rules, subst, sym, ◌∙◌}
-use Rattle.status_table.specs.Words.{Play, content, run_at, run_left, run_seen}
+use Rattle.flat_board.specs.Words.{Play, content, run_at, run_left, run_seen}
 use Rattle.flat_board.proofs.Leaving.{run_has_left}
 use Rattle.flat_board.proofs.Reached.{run_found_named}
 use Rattle.flat_board.proofs.grouped_board.GroupedBoard.close.Goals as goal

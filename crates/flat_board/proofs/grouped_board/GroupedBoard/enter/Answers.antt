@@ -1,8 +1,5 @@
 use Rattle.std.proofs.Common.{◌≡◌, Ok, Some, None, Option, ap, sym, subst, ◌∙◌}
-use Rattle.std.specs.Option.{option_map, option_and_then}
-use Rattle.status_table.specs.Words.{Done, Entrance, Held, Member, after_enter, content, enters, enters_held, fold, holder, value_at, waiter}
-use Rattle.flat_board.specs.Events.{Moved}
-use Rattle.flat_board.specs.Index.{EntersNamed, entered}
+use Rattle.flat_board.specs.Words.{Done, EntersNamed, Entrance, Held, Member, Moved, after_enter, content, entered, enters, enters_held, fold, holder, option_and_then, option_map, value_at, waiter}
 use Rattle.flat_board.proofs.grouped_board.GroupedBoard.enter.Goals as goal
 
 pub enter_held-requires-clause-held : goal.enter_held-requires-clause-held

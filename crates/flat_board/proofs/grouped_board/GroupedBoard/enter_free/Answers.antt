@@ -1,5 +1,5 @@
 use Rattle.std.proofs.Common.{ap, rules, ◌∙◌}
-use Rattle.status_table.specs.Words.{after_enter, content, fold}
+use Rattle.flat_board.specs.Words.{after_enter, content, fold}
 use Rattle.flat_board.proofs.Index.{free_back}
 use Rattle.flat_board.proofs.grouped_board.GroupedBoard.enter_free.Goals as goal
 

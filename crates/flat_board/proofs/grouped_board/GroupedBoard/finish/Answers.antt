@@ -1,5 +1,5 @@
 use Rattle.std.proofs.Common.{◌≡◌, Some, ap, rules, subst, sym, ◌∙◌}
-use Rattle.status_table.specs.Words.{Play, content, leg_at, leg_left, leg_seen}
+use Rattle.flat_board.specs.Words.{Play, content, leg_at, leg_left, leg_seen}
 use Rattle.flat_board.proofs.Leaving.{ended_has_left}
 use Rattle.flat_board.proofs.Reached.{leg_found_named}
 use Rattle.flat_board.proofs.grouped_board.GroupedBoard.finish.Goals as goal

@@ -1,4 +1,4 @@
-use Rattle.status_table.specs.Words.{run_entrance, run_seen}
+use Rattle.flat_board.specs.Words.{run_entrance, run_seen}
 use Rattle.flat_board.proofs.Named.{given_named, run_asks}
 use Rattle.flat_board.proofs.grouped_board.GroupedBoard.open.Goals as goal
 

@@ -1,6 +1,6 @@
 use Rattle.std.proofs.Common.{rules, ◌≡◌, ap, arith, ◌∙◌}
 use Rattle.std.proofs.lemmas.Grind.{common_steps}
-use Rattle.status_table.specs.Words.{after_enter, content, fold}
+use Rattle.flat_board.specs.Words.{after_enter, content, fold}
 use Rattle.status_table.proofs.Kept.{put_out_noted}
 use Rattle.flat_board.proofs.Index.{queued_back}
 use Rattle.flat_board.proofs.grouped_board.GroupedBoard.queue.Goals as goal
