@@ -35,15 +35,6 @@ abbrev pub Goes : Plan → Answers → (ℕ → Option StepCall) → Board → E
 Goes p answers calls b e (Ok x) = Stays b x.0 → Played answers p (λ l. call_after l (calls l) e x.1.what) x.0.runs
 Goes p answers calls b e (Err f) = Unit {0}
 
--- ---- one more step of a leg
-
-one_more : (answers : Answers) (spot : Spot) (done : List DoneStep) (step : StepPlan) (next : DoneStep) → slice_get spot.job.steps (length done) ≡ Some step
-    → next_done answers spot done step ≡ Some next → steps_from answers spot done (drop (length done) spot.job.steps) ≡ steps_from answers spot [] spot.job.steps
-    → steps_from answers spot (done ++ next ∷ []) (drop (length (done ++ next ∷ [])) spot.job.steps) ≡ steps_from answers spot [] spot.job.steps
-one_more answers spot done step next planned given so_far =
-    ap (λ n. steps_from answers spot (done ++ next ∷ []) (drop n spot.job.steps)) (length-append done (next ∷ []))
-    ∙ sym (step_after answers spot done (length done) step (Some next) planned given) ∙ so_far
-
 -- a leg of a job whose legs do not stop one another, by its place
 module _ (p : Plan) (fit : IsFit p) (answers : Answers) (calls : ℕ → Option StepCall) (b : Board) (stands : Stands p answers calls b) (l : ℕ) (at : LegAt)
     (is : leg_at p b l ≡ Some at) where
@@ -200,7 +191,8 @@ module _ (p : Plan) (fit : IsFit p) (answers : Answers) (calls : ℕ → Option 
       put later (λ x. record x { state = LegState.Running worker false; steps = x.steps ++ next ∷ [] }) (rows.step_done b at.place worker next) refl same (live under) (record {
         stop = leg_played.stop;
         group = leg_played.group;
-        goes_on = one_more answers spot at.leg.steps step next planned given leg_played.goes_on;
+        goes_on = ap (λ n. steps_from answers spot (at.leg.steps ++ next ∷ []) (drop n spot.job.steps)) (length-append at.leg.steps (next ∷ []))
+            ∙ sym (step_after answers spot at.leg.steps (length at.leg.steps) step (Some next) planned given) ∙ leg_played.goes_on;
         calling = tt;
         ended = λ result tolerated e. absurd (true≢false (sym (ap is_ended e)));
       })
