@@ -1,13 +1,12 @@
 -- The laws of what an entry makes so.
-use Rattle.std.proofs.Common.{◌≡◌, ℕ, suc, ◌-◌, ◌&&◌, ◌||◌, Bool, true, false, List, [], ◌∷◌, Option, Some, None, Result, Ok, Err, refl, sym, ap, ◌∙◌, if◌then◌else◌, cond}
-use Rattle.status_table.specs.Words.{Board, Entry, JobState, Leg, Plan, Row, RunState, Status, ValueFault, after_from, first_of, job_condition, job_status, judged_state, judgement_by, needs_have_ended, new_board, row, stops_anyway, then_after}
-use Rattle.why_facts.specs.Stops.{failed_of, first_failed, stop_by}
+use Rattle.std.proofs.Common.{◌≡◌, ℕ, suc, Bool, true, false, List, [], ◌∷◌, Some, Result, Ok, Err, refl, sym, ap, ◌∙◌, if◌then◌else◌}
+use Rattle.status_table.specs.Words.{Board, Entry, JobState, Plan, Row, RunState, Status, ValueFault, after_from, first_of, job_condition, job_status, judged_state, judgement_by, needs_have_ended, new_board, row, then_after}
 use Rattle.why_facts.specs.declared.notes.Notes.{Notes}
 use Rattle.why_notes.proofs.Accounts.{board_of}
 use Rattle.why_notes.specs.Account.{Account, account_from, entry_noted, then_account}
 use Rattle.why_notes.specs.Changes.{judged, judged_under}
 use Rattle.why_notes.specs.Conditions.{waits_in_vain}
-use Rattle.why_notes.specs.Laws.{AccountsFollowTheTable, CauseHolds, JobsAreJudgedAsTold, StopsAreCaused, judged_to}
+use Rattle.why_notes.specs.Laws.{AccountsFollowTheTable, JobsAreJudgedAsTold, judged_to}
 use Rattle.status_table.specs.declared.fault.EventFault.{EventFault}
 
 -- ---- the board of an account
@@ -62,32 +61,3 @@ jobs_are_judged_as_told j at state h = by_states at.run.state at.job.state refl 
     by_states RunState.New job is k = cc
     by_states RunState.Waiting job is k = cc
     by_states (RunState.Closed result) job is k = cc
-
--- ---- why a leg is to stop
-
-found : (first : ℕ) (legs : List Leg) (ends : List ℕ) (l : ℕ) → first_failed first legs ends ≡ Some l → failed_of first legs l ≡ true
-found first legs [] l h = cc
-found first legs (k ∷ ends) l h = step (failed_of first legs k) refl h (found first legs ends l)
-  where
-    same : Some k ≡ Some l → k ≡ l
-    same e = cc
-
-    step : (c : Bool) → failed_of first legs k ≡ c → cond c (Some k) (first_failed first legs ends) ≡ Some l
-        → (first_failed first legs ends ≡ Some l → failed_of first legs l ≡ true) → failed_of first legs l ≡ true
-    step true is e later = ap (failed_of first legs) (sym (same e)) ∙ is
-    step false is e later = later e
-
-told_run : (anyway stop lapsed : Bool) → (anyway || (stop && lapsed)) ≡ true → anyway ≡ false → stop ≡ true
-told_run true stop lapsed h none = cc
-told_run false true lapsed h none = refl
-told_run false false lapsed h none = cc
-
-pub stops_are_caused : StopsAreCaused
-stops_are_caused l at h = by_cases at.leg.stop at.job_plan.fail_fast (first_failed (l - at.place.leg) at.job.legs at.board.ends) refl refl refl
-  where
-    by_cases : (stop fast : Bool) (failed : Option ℕ) → at.leg.stop ≡ stop → at.job_plan.fail_fast ≡ fast
-        → first_failed (l - at.place.leg) at.job.legs at.board.ends ≡ failed → CauseHolds l at (stop_by stop fast failed)
-    by_cases true fast failed is-stop is-fast is-failed = is-stop
-    by_cases false true (Some k) is-stop is-fast is-failed = (is-fast, found (l - at.place.leg) at.job.legs at.board.ends k is-failed)
-    by_cases false true None is-stop is-fast is-failed = λ none. told_run (stops_anyway at) at.run.stop _ h none
-    by_cases false false failed is-stop is-fast is-failed = λ none. told_run (stops_anyway at) at.run.stop _ h none

@@ -13,8 +13,9 @@ pub fn changes_name_whom_the_row_names()
     ensures { spec.ChangesNameWhomTheRowNames }
 {}
 
-/// The members that an entry's changes name as causes are those that hold, leave or enter the group, as the row looks at them; the
-/// step after which one is skipped is the first that counts as a failure.
+/// The reason that is told of each change is so on the board before the entry: who is admitted enters a group that nobody holds,
+/// or none; the members that are named hold, leave or enter the group, as the row looks at them; of a job and of a step that is
+/// skipped, its condition, its stop and the first step that counts as a failure are as told; the cause of a stop holds.
 pub fn changes_name_the_right_members()
     ensures { spec.ChangesNameTheRightMembers }
 {}
@@ -25,8 +26,8 @@ pub fn jobs_are_judged_as_told()
     ensures { spec.JobsAreJudgedAsTold }
 {}
 
-/// The cause that is named why a leg is to stop holds on the board.
-#[tactic(auto, using(crate::proofs::Lawful::stops_are_caused))]
+/// The cause that is named why a leg is to stop makes it so: no cause that goes before it holds.
+#[tactic(auto, using(crate::proofs::Stops::stops_are_caused))]
 pub fn stops_are_caused()
     ensures { spec.StopsAreCaused }
 {}
