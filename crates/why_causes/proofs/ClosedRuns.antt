@@ -16,7 +16,7 @@ use Rattle.why_facts.specs.declared.fact.Change.{Change}
 use Rattle.why_facts.specs.declared.notes.MemberNote.{MemberNote}
 use Rattle.why_facts.specs.declared.notes.RunNotes.{RunNotes}
 use Rattle.why_notes.specs.Account.{Account, account_of}
-use Rattle.why_notes.specs.Changes.{closing, judged}
+use Rattle.why_notes.specs.Changes.{closing}
 use Rattle.status_table.specs.declared.fault.EventFault.{EventFault}
 use Rattle.status_table.proofs.Counts.{zip-left}
 use Rattle.status_table.proofs.Found.{RunStands, run_stands}
@@ -33,14 +33,14 @@ pub some_there : {T : Type 0} (xs : List T) (x : T) → Contains xs x → xs ≢
 some_there xs x there e = contains_none x (subst (λ ys. Contains ys x) e there)
 
 -- Nothing is asked about but items that pass.
-record AskedOf {A : Type 0} (ask : ℕ → Question) (n : ℕ) (test : A → Bool) (xs : List A) (q : Question) : Type 0 where
-  place : ℕ
-  item : A
-  there : slice_get xs place ≡ Some item
-  passes : test item ≡ true
-  is : q ≡ ask (n + place)
+pub record AskedOf {A : Type 0} (ask : ℕ → Question) (n : ℕ) (test : A → Bool) (xs : List A) (q : Question) : Type 0 where
+  pub place : ℕ
+  pub item : A
+  pub there : slice_get xs place ≡ Some item
+  pub passes : test item ≡ true
+  pub is : q ≡ ask (n + place)
 
-asked_item : {A : Type 0} (ask : ℕ → Question) (n : ℕ) (test : A → Bool) (xs : List A) (q : Question) → Contains (asked ask n test xs) q → AskedOf ask n test xs q
+pub asked_item : {A : Type 0} (ask : ℕ → Question) (n : ℕ) (test : A → Bool) (xs : List A) (q : Question) → Contains (asked ask n test xs) q → AskedOf ask n test xs q
 asked_item ask n test [] q there = absurd (contains_none q there)
 asked_item {A} ask n test (y ∷ xs) q there = by (test y) refl (λ k. later (asked_item ask (suc n) test xs q k)) there
   where

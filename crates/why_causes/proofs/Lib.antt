@@ -4,12 +4,14 @@ mod Becoming
 mod Changing
 mod ClosedRuns
 pub mod Endings
+mod FirstLegs
 mod Going
 mod Grouping
 mod Members
 mod MetFirst
 mod Noting
-pub mod Obstacles
+mod Obstacles
+pub mod OpenedJobs
 mod Past
 mod SkippedJobs
 mod Staying

@@ -8,7 +8,7 @@ use Rattle.why_facts.specs.declared.notes.MemberNote.{MemberNote}
 use Rattle.why_facts.specs.declared.notes.JobNotes.{JobNotes}
 use Rattle.why_causes.specs.Agrees.{LegAgrees, LegNow, LegStill, RunAgrees, RunNow}
 use Rattle.why_causes.specs.Causes.{asked, causes, first_leg, fresh_asked, going_asked, job_asked, job_sought, job_state_asked, jobs_asked, leg_asked, leg_last, leg_noted_asked, leg_sought, needs_asked, run_asked, run_fact_asked, run_last, run_noted_asked, slots_asked, stopping_asked}
-use Rattle.why_causes.specs.Obstacles.{LegsOfResultsAreNamed, ObstaclesAreNamed, OpenJobsAreNamed, OpenNeedsAreNamed, TakenSlotsAreNamed}
+use Rattle.why_causes.specs.Obstacles.{LegsOfResultsAreNamed, OpenJobsAreNamed, OpenNeedsAreNamed, TakenSlotsAreNamed}
 use Rattle.why_causes.specs.Stands.{RunIs}
 use Rattle.why_causes.specs.declared.question.Question.{Question}
 use Rattle.why_causes.specs.declared.sought.Sought.{Sought}
@@ -120,7 +120,7 @@ judge-refuses : (b : Board) (place : JobPlace) (s : JobState) (c : Bool) → c �
 judge-refuses b place s true h = absurd (true≢false h)
 judge-refuses b place s false h = refl
 
-open_needs : OpenNeedsAreNamed
+pub open_needs : OpenNeedsAreNamed
 open_needs a j at worker play is going unjudged =
     let state = judged_state at.run.stop (job_condition at (job_status first at)) in
     record {
@@ -169,7 +169,7 @@ any_unended run [] = refl
 any_unended run (x ∷ xs) =
     not-both (job_has_ended run x) (list_any (job_sought Sought.Unended run) xs) (list_all (job_has_ended run) xs) (any_unended run xs)
 
-open_jobs : OpenJobsAreNamed
+pub open_jobs : OpenJobsAreNamed
 open_jobs p es a r at worker account is going =
     record {
       jobs = jobs_asked at Sought.Unended;
@@ -232,7 +232,7 @@ some-full : (f : Bool) (qs : List Question) → (if f then qs else []) ≢ [] �
 some-full true qs some = refl
 some-full false qs some = absurd (some refl)
 
-taken_slots : TakenSlotsAreNamed
+pub taken_slots : TakenSlotsAreNamed
 taken_slots p es a l at worker account is may =
     record {
       legs = slots_asked l at;
@@ -312,7 +312,7 @@ unsuccessful_legs n legs = by (list_any (λ leg. has_failed leg.state) legs) (li
         (same_any (leg_sought (Sought.Counting Outcome.Cancelled)) (λ leg. was_cancelled leg.state) legs (λ x. refl) ∙ c)
     by false false f c some = absurd (some refl)
 
-result_legs : LegsOfResultsAreNamed
+pub result_legs : LegsOfResultsAreNamed
 result_legs a j at is opened ended some =
     subst (λ qs. qs ≢ []) (sym below) (unsuccessful_legs (first_leg notes) at.job.legs some)
   where
@@ -323,6 +323,3 @@ result_legs a j at is opened ended some =
     below =
         ap (job_asked a j) is ∙ ap (job_state_asked at notes) opened
         ∙ ap (λ e. asked Question.Leg (first_leg notes) (leg_sought (if e then Sought.Counting (legs_result at.job.legs) else Sought.Unended)) at.job.legs) ended
-
-pub obstacles_are_named : ObstaclesAreNamed
-obstacles_are_named = record { needs = open_needs; jobs = open_jobs; slots = taken_slots; legs = result_legs }

@@ -1,6 +1,6 @@
 -- Which facts made a fact so: what is asked next where something is asked. The board after a record keeps what has ended
 -- as it was, and so tells it of all but what the notes say.
-use Rattle.std.specs.Prelude.{ℕ, suc, ◌+◌, ◌-◌, ◌++◌, ◌==◌, ◌&&◌, Bool, true, false, not, List, [], ◌∷◌, length, map, Option, Some, None, slice_get, if◌then◌else◌}
+use Rattle.std.specs.Prelude.{ℕ, suc, ◌-◌, ◌++◌, ◌==◌, ◌&&◌, Bool, true, false, not, List, [], ◌∷◌, length, map, Option, Some, None, slice_get, if◌then◌else◌}
 use Rattle.status_table.specs.Words.{DoneStep, Job, JobAt, JobPlan, JobState, Leg, LegAt, LegState, Member, Outcome, Run, RunAt, first_number, first_place, has_failed, holds_at, is_cancelled, is_ended, is_failure, is_full, is_going, is_open, is_stopping, is_under_way, job_at, job_has_ended, job_result, leg_at, legs_result, run_at, was_cancelled}
 use Rattle.why_causes.specs.declared.question.Question.{Question}
 use Rattle.why_causes.specs.declared.sought.Sought.{Sought}
