@@ -524,8 +524,11 @@ class Signalled(Case):
                 self.assertFalse(self.record.exists())
 
     def test_a_server_in_a_session_of_its_own_goes_on(self) -> None:
-        steps = [{"run": f"setsid sleep 77.{UNIQUE} > /dev/null & sleep 0.1; touch here; sleep 78.{UNIQUE}"}]
-        self.assertEqual(self.stop(signal.SIGTERM, steps).returncode, 143)
+        server = f"setsid sh -c 'touch there; exec sleep 77.{UNIQUE}' > /dev/null & until [ -e there ]; do sleep 0.02; done"
+        self.assertEqual(self.stop(signal.SIGTERM, [{"run": f"{server}; touch here; sleep 78.{UNIQUE}"}]).returncode, 143)
+        end = time.monotonic() + 5
+        while not sleeps() and time.monotonic() < end:
+            time.sleep(0.02)
         self.assertEqual(list(sleeps()), [f"77.{UNIQUE}"])
 
     def test_a_second_signal_ends_at_once_what_does_not_end(self) -> None:
