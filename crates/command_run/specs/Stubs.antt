@@ -8,6 +8,8 @@ use Rattle.command_io.specs.declared.contexts.ContextsFault.{ContextsFault}
 use Rattle.command_io.specs.declared.contexts.ContextsFault.TheVariants.{NotJson, WrongShape}
 use Rattle.command_io.specs.declared.error.CommandError.{CommandError}
 use Rattle.command_io.specs.declared.error.CommandError.TheVariants.{Memory}
+use Rattle.command_run.specs.Environment.{StartsOver}
+use Rattle.flow_commands.specs.PairFiles.{Pair}
 
 -- programs, each after the action that it stands for
 abbrev pub Stubs : Type 0
@@ -49,6 +51,11 @@ stubs_read (Some d) = document_stubs d
 -- The stubs of a file.
 abbrev pub file_stubs : List ℕ → Result Stubs ContextsFault
 file_stubs bytes = stubs_read (json_read bytes)
+
+-- A host starts programs so with the stubs that a file gives, over the variables of an environment.
+abbrev pub StartsStubs : (ℕ → Option (List ℕ) → Type 0) → (Stubs → List Pair → Type 0) → Content → Type 0
+StartsStubs holds starts file =
+    (programs : Stubs) × (file_stubs file.bytes ≡ Ok programs) × StartsOver holds (starts programs)
 
 -- The stubs of a file, or why it gives none; want of memory may be answered besides.
 abbrev pub HasStubs : Content → Result Stubs CommandError → Type 0
