@@ -169,12 +169,15 @@ tell_part() {
 # signal ends all at once.
 stop_run() {
   stopped=$1
-  # shellcheck disable=SC2064
-  trap "end_session KILL; exit $1" INT TERM
+  # (`timeout` sends its signal to this script and to its group: the second one at once is the same)
+  trap '' INT TERM
   # (it is no job any more, so that bash does not say how it ended)
   disown "$child"
   kill -KILL "$child"
   end_session TERM
+  sleep 0.1
+  # shellcheck disable=SC2064
+  trap "end_session KILL; exit $1" INT TERM
   for _ in {1..30}; do
     [ -n "$(in_session)" ] || return
     sleep 0.1

@@ -531,6 +531,20 @@ class Signalled(Case):
             time.sleep(0.02)
         self.assertEqual(list(sleeps()), [f"77.{UNIQUE}"])
 
+    def test_a_signal_that_comes_twice_at_once_is_one(self) -> None:
+        """As `timeout` sends it, to the script and to its group."""
+        with subprocess.Popen(self.script(*self.words(self.plan(LONG))), stdin=subprocess.DEVNULL, stdout=subprocess.PIPE,
+                              stderr=subprocess.PIPE, text=True, start_new_session=True) as child:
+            end = time.monotonic() + 20
+            while not (self.work / "here").exists() and time.monotonic() < end:
+                time.sleep(0.02)
+            os.kill(child.pid, signal.SIGTERM)
+            time.sleep(0.01)
+            os.killpg(child.pid, signal.SIGTERM)
+            err = child.communicate(timeout=30)[1]
+        self.assertEqual((child.returncode, err.splitlines()[:1]),
+                         (143, [f"actrun: a signal ended the run; {self.part} has its record so far: actrun why {self.part}"]))
+
     def test_a_second_signal_ends_at_once_what_does_not_end(self) -> None:
         steps = [{"run": f"trap '' TERM; touch here; sleep 79.{UNIQUE}"}]
         answer = self.stop(signal.SIGTERM, steps, again=True)
