@@ -24,6 +24,16 @@ count() {
   rm -f "$told"
 }
 
+# prints how long processors have worked for what this shell ran
+tell_minutes() {
+  local told
+  told=$(mktemp) || return
+  times >"$told"
+  awk 'NR == 2 { split($1, used, /[ms]/); split($2, inside, /[ms]/)
+    printf "%.1f processor minutes\n", used[1] + inside[1] + (used[2] + inside[2]) / 60 }' "$told"
+  rm -f "$told"
+}
+
 # installs the packages that tests need where they are missing, or says which those are; the tests then fail, or say that they
 # are skipped
 need_packages() {
