@@ -2,8 +2,8 @@
 use Rattle.std.proofs.Common.{◌≡◌, ℕ, Bool, true, false, List, Option, None, Some, Result, Ok, Err, length, refl, ap, sym, subst, ◌∙◌}
 use Rattle.plan_values.specs.Words.{CallWork, Contexts, Env, HasNoFault, JobPlan, Outcome, Plain, RunPlan, Shell, Status, StepPlan, ValueFault, Work, condition_value, env_value, text_text}
 use Rattle.board_decisions.specs.Calls.{AreCallsOf, Tells, called_as}
-use Rattle.board_decisions.specs.Decisions.{then_value, flow_env, job_env, leg_env, step_env, seen_from, directory_value, work_value, called_if, step_decision, is_called, leg_result, leg_status, status_of}
-use Rattle.board_decisions.specs.Own.{HasOwnEnv, IsOwnStep}
+use Rattle.board_decisions.specs.Decisions.{then_value, step_env, seen_from, directory_value, work_value, call_if, step_call, step_decision, is_called, leg_result, leg_status, status_of}
+use Rattle.board_decisions.specs.Own.{HasOwnEnv}
 use Rattle.board_decisions.specs.declared.kept.Called.{Called}
 use Rattle.board_decisions.specs.declared.kept.Called.TheVariants.{Yes, No, Unknown}
 use Rattle.board_decisions.specs.declared.kept.Calls.{Calls}
@@ -31,13 +31,20 @@ pub own_action : (c : Contexts) (uses : List ℕ) (given : List (List ℕ × Pla
 unfolding work_value
 own_action c uses given h = then_none (env_value c given) _ h (λ inputs. tt)
 
-own_env : (at : LegAt) (step : StepPlan) → IsOwnStep at (record step { condition = None }) → HasNoFault (step_env at step)
-unfolding flow_env job_env leg_env step_env
+-- Whatever the contexts are, the variables of no level have a fault, and neither has what the call asks for.
+record IsOwnStep (at : LegAt) (step : StepPlan) : Type 0 where
+  flow : (c : Contexts) → HasNoFault (env_value c at.run_plan.env)
+  job : (c : Contexts) → HasNoFault (env_value c at.job_plan.env)
+  own : (c : Contexts) → HasNoFault (env_value c step.env)
+  work : (c : Contexts) → HasNoFault (work_value c step.work)
+
+own_env : (at : LegAt) (step : StepPlan) → IsOwnStep at step → HasNoFault (step_env at step)
+unfolding step_env
 own_env at step own =
     then_none _ _ (then_none _ _ (then_none _ _ (own.flow _) (λ below. then_none _ _ (own.job _) (λ above. tt))) (λ below. tt))
     (λ below. then_none _ _ (own.own _) (λ above. tt))
 
-called_by : (l : ℕ) (at : LegAt) (step : StepPlan) (env : Env) (holds : Bool) → IsOwnStep at (record step { condition = None }) → is_called (called_if l at step env holds) ≡ Ok holds
+called_by : (l : ℕ) (at : LegAt) (step : StepPlan) (env : Env) (holds : Bool) → IsOwnStep at step → is_called (call_if (seen_from at) l (length at.leg.steps) step env holds) ≡ Ok holds
 called_by l at step env false own = refl
 called_by l at step env true own = by_work (work_value (seen_from at TextPlace.StepText env) step.work) (own.work _)
   where
@@ -46,20 +53,20 @@ called_by l at step env true own = by_work (work_value (seen_from at TextPlace.S
     by_work (Err fault) h = absurd h
 
 -- It is called where its condition holds, and is skipped else, if that has a value whatever the contexts are.
-own_step : (l : ℕ) (at : LegAt) (step : StepPlan) (holds : Bool) → IsOwnStep at (record step { condition = None })
+own_step : (l : ℕ) (at : LegAt) (step : StepPlan) (holds : Bool) → IsOwnStep at step
     → ((c : Contexts) → condition_value c (leg_status at) step.condition ≡ Ok holds) → is_called (step_decision l at step) ≡ Ok holds
-unfolding step_decision
+unfolding step_decision step_call step_env
 own_step l at step holds own held = by_env (step_env at step) (own_env at step own)
   where
     by_env : (r : Result Env ValueFault) → HasNoFault r
-        → is_called (then_value r (λ env. then_value (condition_value (seen_from at TextPlace.StepCondition env) (leg_status at) step.condition) (called_if l at step env))) ≡ Ok holds
+        → is_called (then_value r (λ env. then_value (condition_value (seen_from at TextPlace.StepCondition env) (leg_status at) step.condition) (call_if (seen_from at) l (length at.leg.steps) step env))) ≡ Ok holds
     by_env (Ok env) h =
-        ap (λ (r : Result Bool ValueFault). is_called (then_value r (called_if l at step env))) (held (seen_from at TextPlace.StepCondition env))
+        ap (λ (r : Result Bool ValueFault). is_called (then_value r (call_if (seen_from at) l (length at.leg.steps) step env))) (held (seen_from at TextPlace.StepCondition env))
         ∙ called_by l at step env holds own
     by_env (Err fault) h = absurd h
 
 -- What is told of its condition, whatever the contexts are, is told of whether it is called.
-told_called : (l : ℕ) (at : LegAt) (step : StepPlan) (called : Called) → IsOwnStep at (record step { condition = None })
+told_called : (l : ℕ) (at : LegAt) (step : StepPlan) (called : Called) → IsOwnStep at step
     → ((c : Contexts) → Tells called (condition_value c (leg_status at) step.condition)) → Tells called (is_called (step_decision l at step))
 told_called l at step Yes own held = own_step l at step true own held
 told_called l at step No own held = own_step l at step false own held
@@ -72,13 +79,12 @@ pub calls_told : (run : RunPlan) (job : JobPlan) (step : StepPlan) (calls : Call
     → ((c : Contexts) → Tells calls.cancelled (condition_value c Status.Cancelled step.condition)) → AreCallsOf run job step calls
 calls_told run job step calls outer own asks succeeds fails cancels l at in_run in_job = by_result (leg_result at) refl
   where
-    is_own : IsOwnStep at (record step { condition = None })
+    is_own : IsOwnStep at step
     is_own = record {
       flow = λ c. subst (λ (r : RunPlan). HasNoFault (env_value c r.env)) (sym in_run) (outer.flow c);
       job = λ c. subst (λ (j : JobPlan). HasNoFault (env_value c j.env)) (sym in_job) (outer.job c);
       own = own;
       work = asks;
-      plain = refl;
     }
 
     told : (called : Called) (how : Outcome) → leg_result at ≡ how → ((c : Contexts) → Tells called (condition_value c (status_of how) step.condition))

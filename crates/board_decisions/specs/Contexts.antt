@@ -71,11 +71,14 @@ job_beside at k = job_in_run at.board at.run_plan at.run (record { run = at.plac
 abbrev pub needed_job : JobAt → ℕ → Option JobAt
 needed_job at need = job_beside at (need - first_number at)
 
--- What is seen of a job that is needed: its outputs and its result.
+-- What is seen of a job that is needed, by its outputs and its result.
+abbrev pub need_shown : Env → Outcome → Plain
+need_shown outputs result =
+    object ((codes "outputs", env_context outputs) ∷ (codes "result", text (result_name result)) ∷ [])
+
+-- What is seen of a job on a board that is needed.
 abbrev pub need_value : JobAt → Plain
-need_value need =
-    object ((codes "outputs", env_context (job_outputs need.board need.place))
-    ∷ (codes "result", text (result_name (job_result need.run need.job))) ∷ [])
+need_value need = need_shown (job_outputs need.board need.place) (job_result need.run need.job)
 
 -- What is seen of a job that is needed, at the job's id.
 abbrev pub need_pair : JobAt → List ℕ × Plain
@@ -101,10 +104,14 @@ run_values plan other = object []
 
 -- ---- what a job sees
 
--- The value of each context, seen from a job.
+-- The value of each context, seen from a job of a run, where `needs` is as given.
+abbrev pub job_sees : RunPlan → Plain → Values
+job_sees run needs Context.Needs = needs
+job_sees run needs other = run_values run other
+
+-- The value of each context, seen from a job on a board.
 unfoldable pub job_values : JobAt → Values
-job_values at Context.Needs = needs_value at
-job_values at other = run_values at.run_plan other
+job_values at = job_sees at.run_plan (needs_value at)
 
 -- ---- what a leg sees
 
@@ -128,25 +135,31 @@ most_at_once plan = most plan.max_parallel
     most None = length plan.legs
     most (Some limit) = limit
 
--- Where a leg stands among those of its job, and how these may be played.
-unfoldable pub strategy_value : LegAt → Plain
-strategy_value at =
+-- Where the leg at a place of a job stands among its legs, and how these may be executed.
+abbrev pub strategy_shown : JobPlan → ℕ → Plain
+strategy_shown job k =
     object (
-    (codes "fail-fast", truth at.job_plan.fail_fast)
-    ∷ (codes "job-index", count at.place.leg)
-    ∷ (codes "job-total", count (length at.job_plan.legs))
-    ∷ (codes "max-parallel", count (most_at_once at.job_plan))
+    (codes "fail-fast", truth job.fail_fast)
+    ∷ (codes "job-index", count k)
+    ∷ (codes "job-total", count (length job.legs))
+    ∷ (codes "max-parallel", count (most_at_once job))
     ∷ []
     )
+
+unfoldable pub strategy_value : LegAt → Plain
+strategy_value at = strategy_shown at.job_plan at.place.leg
 
 -- The pairs of a combination, where there is one.
 abbrev pub pairs_in : Option (List (List ℕ × Plain)) → List (List ℕ × Plain)
 pairs_in None = []
 pairs_in (Some pairs) = pairs
 
--- The combination of a leg.
+-- The combination of the leg at a place of a job.
+abbrev pub matrix_shown : JobPlan → ℕ → Plain
+matrix_shown job k = object (pairs_in (slice_get job.legs k))
+
 unfoldable pub matrix_value : LegAt → Plain
-matrix_value at = object (pairs_in (slice_get at.job_plan.legs at.place.leg))
+matrix_value at = matrix_shown at.job_plan at.place.leg
 
 -- How the job counts so far.
 abbrev pub job_value : Outcome → Plain
@@ -176,9 +189,12 @@ abbrev pub planned_pair : Option StepPlan → DoneStep → Option (List ℕ × P
 planned_pair None done = None
 planned_pair (Some plan) done = id_pair plan.id done
 
--- The steps of a leg that are done and have an id, by their ids.
+-- The steps that are done and have an id, by their ids.
+abbrev pub steps_shown : List StepPlan → List DoneStep → Plain
+steps_shown plans done = object (laid_over (filter_map step_pair (zip plans done)) [])
+
 unfoldable pub steps_value : LegAt → Plain
-steps_value at = object (laid_over (filter_map step_pair (zip at.job_plan.steps at.leg.steps)) [])
+steps_value at = steps_shown at.job_plan.steps at.leg.steps
 
 -- The value of each context, seen from a leg that counts so.
 unfoldable pub leg_values_by : Outcome → LegAt → Values

@@ -2,7 +2,7 @@
 -- groups. The rows of the table say only what follows from it.
 use Rattle.std.specs.Prelude.{ℕ, ◌&&◌, ◌||◌, Bool, true, false, not, List, [], ◌∷◌, map, length, Option, Some, None, Result, Ok, Err, if◌then◌else◌}
 use Rattle.std.specs.List.{list_any}
-use Rattle.plan_values.specs.Words.{CallWork, Contexts, DoneStep, Env, Group, Outcome, Status, StepCall, StepPlan, ValueFault, Values, Work, condition_value, contexts_at, env_value, flag_value, fold, laid_over, outputs_value, text_text, with_env}
+use Rattle.plan_values.specs.Words.{CallWork, Contexts, DoneStep, Env, Group, JobPlan, Outcome, RunPlan, Status, StepCall, StepPlan, ValueFault, Values, Work, condition_value, contexts_at, env_value, flag_value, fold, laid_over, outputs_value, text_text, with_env}
 use Rattle.board_decisions.specs.Contexts.{overlaid, run_values, job_values, job_of, leg_values_by}
 use Rattle.board_decisions.specs.Derived.{is_failure, has_failed}
 use Rattle.board_decisions.specs.Place.{RunAt, JobAt, LegAt}
@@ -59,40 +59,65 @@ leg_status at = status_of (leg_result at)
 unfoldable pub leg_values : LegAt → Values
 leg_values at = leg_values_by (leg_result at) at
 
--- The contexts that a place sees, seen from a leg, where `env` is these variables.
-abbrev pub seen_from : LegAt → TextPlace → Env → Contexts
-seen_from at spot env = contexts_at spot (with_env env (leg_values at))
+-- ---- what a place sees
+
+-- What each place sees from somewhere, where `env` is these variables.
+abbrev pub Sight : Type 0
+Sight = TextPlace → Env → Contexts
+
+-- What is seen of values at each place.
+abbrev pub sight : Values → Sight
+sight values spot env = contexts_at spot (with_env env values)
+
+-- What each place sees from a leg.
+abbrev pub seen_from : LegAt → Sight
+seen_from at = sight (leg_values at)
 
 -- ---- environments
 
 -- The variables of the workflow.
-unfoldable pub flow_env : LegAt → Result Env ValueFault
-flow_env at = env_value (seen_from at TextPlace.WorkflowEnv []) at.run_plan.env
+abbrev pub flow_variables : Sight → RunPlan → Result Env ValueFault
+flow_variables sees run = env_value (sees TextPlace.WorkflowEnv []) run.env
 
 -- The variables of the job over others.
-abbrev pub job_env_over : LegAt → Env → Result Env ValueFault
-job_env_over at below =
-    then_value (env_value (seen_from at TextPlace.JobEnv []) at.job_plan.env) (λ above.
-    Ok (laid_over above below))
+abbrev pub job_variables_over : Sight → JobPlan → Env → Result Env ValueFault
+job_variables_over sees job below =
+    then_value (env_value (sees TextPlace.JobEnv []) job.env) (λ above. Ok (laid_over above below))
 
 -- The variables of the workflow, and those of the job over them.
-unfoldable pub job_env : LegAt → Result Env ValueFault
-job_env at = then_value (flow_env at) (job_env_over at)
+abbrev pub job_variables : Sight → RunPlan → JobPlan → Result Env ValueFault
+job_variables sees run job = then_value (flow_variables sees run) (job_variables_over sees job)
 
 -- What done steps set over other variables, each over those before it (GitHub Docs, "Workflow commands": setting an
 -- environment variable).
 abbrev pub set_over : List DoneStep → Env → Env
 set_over done below = overlaid (map (λ step. step.env) done) below
 
--- The variables of the job, and over them what the done steps of the leg set.
-unfoldable pub leg_env : LegAt → Result Env ValueFault
-leg_env at = then_value (job_env at) (λ below. Ok (set_over at.leg.steps below))
+-- The variables of a job, and over them what the done steps of a leg set.
+abbrev pub leg_variables : Sight → RunPlan → JobPlan → List DoneStep → Result Env ValueFault
+leg_variables sees run job done = then_value (job_variables sees run job) (λ below. Ok (set_over done below))
+
+-- The variables of a step over others, which its own texts see.
+abbrev pub step_variables_over : Sight → StepPlan → Env → Result Env ValueFault
+step_variables_over sees step below =
+    then_value (env_value (sees TextPlace.StepEnv below) step.env) (λ above. Ok (laid_over above below))
 
 -- The variables of a leg, and those of a step over them.
+abbrev pub step_variables : Sight → RunPlan → JobPlan → List DoneStep → StepPlan → Result Env ValueFault
+step_variables sees run job done step = then_value (leg_variables sees run job done) (step_variables_over sees step)
+
+-- The variables of each level, seen from a leg on a board.
+unfoldable pub flow_env : LegAt → Result Env ValueFault
+flow_env at = flow_variables (seen_from at) at.run_plan
+
+unfoldable pub job_env : LegAt → Result Env ValueFault
+job_env at = job_variables (seen_from at) at.run_plan at.job_plan
+
+unfoldable pub leg_env : LegAt → Result Env ValueFault
+leg_env at = leg_variables (seen_from at) at.run_plan at.job_plan at.leg.steps
+
 unfoldable pub step_env : LegAt → StepPlan → Result Env ValueFault
-step_env at step =
-    then_value (leg_env at) (λ below.
-    then_value (env_value (seen_from at TextPlace.StepEnv below) step.env) (λ above. Ok (laid_over above below)))
+step_env at = step_variables (seen_from at) at.run_plan at.job_plan at.leg.steps
 
 -- The variables, and none where there is a fault.
 abbrev pub or_none : Result Env ValueFault → Env
@@ -115,24 +140,29 @@ work_value c (Work.Run dir run shell) =
 work_value c (Work.Uses uses given) =
     then_value (env_value c given) (λ inputs. Ok (CallWork.Uses uses inputs))
 
--- The call of a step, whose variables are these.
-abbrev pub call_value : ℕ → LegAt → StepPlan → Env → Result (Option StepCall) ValueFault
-call_value l at step env =
-    then_value (work_value (seen_from at TextPlace.StepText env) step.work) (λ asked.
-    Ok (Some (record { leg = l; step = length at.leg.steps; work = asked; env = env })))
+-- The call of a step of a leg, both by their numbers, whose variables are these.
+abbrev pub call_of : Sight → ℕ → ℕ → StepPlan → Env → Result (Option StepCall) ValueFault
+call_of sees l s step env =
+    then_value (work_value (sees TextPlace.StepText env) step.work) (λ asked.
+    Ok (Some (record { leg = l; step = s; work = asked; env = env })))
 
 -- A step is called where its condition holds, and else not.
-abbrev pub called_if : ℕ → LegAt → StepPlan → Env → Bool → Result (Option StepCall) ValueFault
-called_if l at step env true = call_value l at step env
-called_if l at step env false = Ok None
+abbrev pub call_if : Sight → ℕ → ℕ → StepPlan → Env → Bool → Result (Option StepCall) ValueFault
+call_if sees l s step env true = call_of sees l s step env
+call_if sees l s step env false = Ok None
 
--- The call of a step, or none where it is skipped: the variables first, then its condition with the status of
--- the leg, and then the texts of the call. The first fault is the answer.
+-- The call of the step after those that are done, or none where it is skipped: the variables first, then its condition
+-- with the status of the leg, and then the texts of the call. The first fault is the answer.
+unfoldable pub step_call :
+    Sight → Status → RunPlan → JobPlan → ℕ → List DoneStep → StepPlan → Result (Option StepCall) ValueFault
+step_call sees status run job l done step =
+    then_value (step_variables sees run job done step) (λ env.
+    then_value (condition_value (sees TextPlace.StepCondition env) status step.condition)
+    (call_if sees l (length done) step env))
+
+-- The call of a step of a leg on a board, likewise.
 unfoldable pub step_decision : ℕ → LegAt → StepPlan → Result (Option StepCall) ValueFault
-step_decision l at step =
-    then_value (step_env at step) (λ env.
-    then_value (condition_value (seen_from at TextPlace.StepCondition env) (leg_status at) step.condition)
-    (called_if l at step env))
+step_decision l at = step_call (seen_from at) (leg_status at) at.run_plan at.job_plan l at.leg.steps
 
 -- A step is called, or not, or its texts have a fault.
 abbrev pub is_called : Result (Option StepCall) ValueFault → Result Bool ValueFault
@@ -143,16 +173,27 @@ is_called (Err f) = Err f
 -- ---- continue-on-error, and the outputs of a leg
 
 -- A failure of a step may be passed over. Where its variables have a fault, it sees none.
+unfoldable pub step_passes : Sight → RunPlan → JobPlan → List DoneStep → StepPlan → Bool
+step_passes sees run job done step =
+    flag_value (sees TextPlace.StepText (or_none (step_variables sees run job done step))) step.tolerate
+
 unfoldable pub step_tolerates : LegAt → StepPlan → Bool
-step_tolerates at step = flag_value (seen_from at TextPlace.StepText (or_none (step_env at step))) step.tolerate
+step_tolerates at = step_passes (seen_from at) at.run_plan at.job_plan at.leg.steps
 
 -- A failure of a leg may be passed over.
+abbrev pub job_passes : Sight → JobPlan → Bool
+job_passes sees job = flag_value (sees TextPlace.JobGroup []) job.tolerate
+
 unfoldable pub job_tolerates : LegAt → Bool
-job_tolerates at = flag_value (seen_from at TextPlace.JobGroup []) at.job_plan.tolerate
+job_tolerates at = job_passes (seen_from at) at.job_plan
 
 -- The outputs that a leg gives its job. Where its variables have a fault, they see none.
+unfoldable pub outputs_of_leg : Sight → RunPlan → JobPlan → List DoneStep → Env
+outputs_of_leg sees run job done =
+    outputs_value (sees TextPlace.StepEnv (or_none (leg_variables sees run job done))) job.outputs
+
 unfoldable pub leg_outputs : LegAt → Env
-leg_outputs at = outputs_value (seen_from at TextPlace.StepEnv (or_none (leg_env at))) at.job_plan.outputs
+leg_outputs at = outputs_of_leg (seen_from at) at.run_plan at.job_plan at.leg.steps
 
 -- ---- how a member enters its group
 

@@ -1,6 +1,6 @@
 //! What is decided by the texts of a plan: conditions, environments, the texts of a call, flags and outputs.
 
-ghost use Rattle.std.specs.Prelude.{◌≡◌, [], not, Some, IfOk, IfSome, OnOk, Result, if◌then◌else◌, string_bytes};
+ghost use Rattle.std.specs.Prelude.{◌≡◌, [], not, Some, IfOk, IfSome, OnOk, Result, if◌then◌else◌, length, string_bytes};
 ghost use Rattle.board_decisions.specs.Decisions as spec;
 ghost use Rattle.board_decisions.specs.Kept.{IsKeptOf};
 ghost use Rattle.board_decisions.specs.Scenes.{leg_scene};
@@ -135,7 +135,7 @@ pub fn leg_result(alloc: Global, at: &SeenLeg) -> Result<Outcome, AllocError>
 }
 
 /// A result as a status.
-pub(crate) fn status_of(how: Outcome) -> Status
+pub fn status_of(how: Outcome) -> Status
     ensures { result ≡ spec.status_of how }
 {
     match how {
@@ -147,7 +147,7 @@ pub(crate) fn status_of(how: Outcome) -> Status
 }
 
 /// Lets texts see the variables of the job over others.
-fn know_job_over(
+pub fn know_job_over(
     alloc: Global,
     at: &SeenLeg,
     known: &mut Known,
@@ -156,7 +156,7 @@ fn know_job_over(
     requires known { IsKnownOf (leg_scene at.now) known.old }
     requires env { known_env known.old ≡ [] }
     ensures value { Gives (λ _. known_env known.new) result
-        (spec.job_env_over (leg_seen at.now) below) }
+        (spec.job_variables_over (spec.seen_from (leg_seen at.now)) at.now.job_plan.now below) }
     ensures known { IsKnownOf (leg_scene at.now) known.new }
 {
     let env = &at.job_plan.env;
@@ -191,7 +191,7 @@ fn know_job_env(alloc: Global, at: &SeenLeg, known: &mut Known) -> Result<(), Va
 }
 
 /// Lets texts see what the done steps of a leg set over the variables that they see.
-fn know_set(alloc: Global, at: &SeenLeg, known: &mut Known) -> Result<(), AllocError>
+pub fn know_set(alloc: Global, at: &SeenLeg, known: &mut Known) -> Result<(), AllocError>
     requires { IsKnownOf (leg_scene at.now) known.old }
     ensures value { OnOk result
         (known_env known.new ≡ spec.set_over (leg_seen at.now).leg.steps (known_env known.old)) }
@@ -205,7 +205,7 @@ fn know_set(alloc: Global, at: &SeenLeg, known: &mut Known) -> Result<(), AllocE
 }
 
 /// Lets texts see the variables of the workflow and the job, and what the done steps of the leg set.
-#[tactic(auto, unfolding(crate::specs::Decisions::leg_env))]
+#[tactic(auto, unfolding(crate::specs::Decisions::leg_env, crate::specs::Decisions::job_env))]
 fn know_leg_env(alloc: Global, at: &SeenLeg, known: &mut Known) -> Result<(), ValueFault>
     requires known { IsKnownOf (leg_scene at.now) known.old }
     requires env { known_env known.old ≡ [] }
@@ -217,9 +217,32 @@ fn know_leg_env(alloc: Global, at: &SeenLeg, known: &mut Known) -> Result<(), Va
     Ok(())
 }
 
+/// Lets texts see the variables of a step over those that they see.
+pub fn know_step_over(
+    alloc: Global,
+    at: &SeenLeg,
+    known: &mut Known,
+    step: &StepPlan,
+) -> Result<(), ValueFault>
+    requires { IsKnownOf (leg_scene at.now) known.old }
+    ensures value { Gives (λ _. known_env known.new) result (spec.step_variables_over
+        (spec.seen_from (leg_seen at.now)) step.now (known_env known.old)) }
+    ensures known { IsKnownOf (leg_scene at.now) known.new }
+{
+    let own = env_at(
+        alloc,
+        &LegScene { at },
+        known,
+        TextPlace::StepEnv,
+        &step.env,
+    )?;
+    known.lay_own_env(alloc, own)?;
+    Ok(())
+}
+
 /// Lets texts see the variables of the workflow and the job, what the done steps of the leg set, and the variables of a
 /// step.
-#[tactic(auto, unfolding(crate::specs::Decisions::step_env))]
+#[tactic(auto, unfolding(crate::specs::Decisions::step_env, crate::specs::Decisions::leg_env))]
 fn know_step_env(
     alloc: Global,
     at: &SeenLeg,
@@ -233,15 +256,7 @@ fn know_step_env(
     ensures known { IsKnownOf (leg_scene at.now) known.new }
 {
     know_leg_env(alloc, at, known)?;
-    let own = env_at(
-        alloc,
-        &LegScene { at },
-        known,
-        TextPlace::StepEnv,
-        &step.env,
-    )?;
-    known.lay_own_env(alloc, own)?;
-    Ok(())
+    know_step_over(alloc, at, known, step)
 }
 
 /// Lets texts see the variables that were evaluated, or none where there was a fault.
@@ -339,7 +354,8 @@ fn call_value(
 ) -> Result<StepCall, ValueFault>
     requires { IsKnownOf (leg_scene at.now) known.old }
     ensures value { Gives (λ call. Some call) result
-        (spec.call_value number (leg_seen at.now) step.now (known_env known.old)) }
+        (spec.call_of (spec.seen_from (leg_seen at.now)) number (length at.now.leg.now.steps)
+        step.now (known_env known.old)) }
     ensures known { IsKnownOf (leg_scene at.now) known.new }
 {
     let work = work_value(alloc, at, known, &step.work)?;
@@ -379,7 +395,7 @@ fn step_condition(
 
 /// The call of a step, or none where it is skipped: its variables
 /// first, then its condition, then the texts of the call.
-#[tactic(auto, unfolding(crate::specs::Decisions::step_decision))]
+#[tactic(auto, unfolding(crate::specs::Decisions::step_decision, crate::specs::Decisions::step_call, crate::specs::Decisions::step_env))]
 fn decide_step(
     alloc: Global,
     number: u64,
@@ -413,7 +429,7 @@ pub fn step_decision(
 }
 
 /// Whether a failure of a step may be passed over.
-#[tactic(auto, unfolding(crate::specs::Decisions::step_tolerates, plan_values::specs::Texts::flag_value))]
+#[tactic(auto, unfolding(crate::specs::Decisions::step_tolerates, crate::specs::Decisions::step_passes, crate::specs::Decisions::step_env, plan_values::specs::Texts::flag_value))]
 pub fn step_tolerates(alloc: Global, at: &SeenLeg, step: &StepPlan) -> Result<bool, AllocError>
     ensures { IfOk result
         (λ tolerates. tolerates ≡ spec.step_tolerates (leg_seen at.now) step.now) }
@@ -449,7 +465,7 @@ pub fn job_tolerates(alloc: Global, at: &SeenLeg) -> Result<bool, AllocError>
 }
 
 /// The outputs that a leg gives its job.
-#[tactic(auto, unfolding(crate::specs::Decisions::leg_outputs, plan_values::specs::Outputs::outputs_value))]
+#[tactic(auto, unfolding(crate::specs::Decisions::leg_outputs, crate::specs::Decisions::outputs_of_leg, crate::specs::Decisions::leg_env, plan_values::specs::Outputs::outputs_value))]
 pub fn leg_outputs(alloc: Global, at: &SeenLeg) -> Result<Mapping<Text>, AllocError>
     ensures { IfOk result (λ outputs. outputs ≡ spec.leg_outputs (leg_seen at.now)) }
 {

@@ -1,6 +1,6 @@
 -- What the call of a step is made of.
 use Rattle.std.proofs.Common.{◌≡◌, ℕ, suc, Bool, true, false, List, [], ◌∷◌, map, Option, Some, None, Result, Ok, Err, length, nat_le, refl, sym, ap, subst, ◌∙◌}
-use Rattle.board_settled.specs.Words.{Ascends, AskedInOrder, Board, CallInOrder, CallWork, CallsAreInOrder, CallsAreMostSpecific, Contexts, DoneStep, Env, EnvHasItsNames, EventFault, IfCalled, LegAt, LevelsStayInOrder, MostSpecificIsGiven, Plan, PlanInOrder, SetInOrder, StepCall, StepInOrder, StepPlan, TextPlace, ValueFault, Work, WorkInOrder, begin_found, begin_leg, called_if, condition_value, decided, directory_value, env_value, flow_env, job_env, laid_over, last_set, leg_at, leg_env, leg_status, next_step, or_below, overlaid, seen_from, set_over, step_decision, step_env, text_text, then_value, value_at, work_value}
+use Rattle.board_settled.specs.Words.{Ascends, AskedInOrder, Board, CallInOrder, CallWork, CallsAreInOrder, CallsAreMostSpecific, Contexts, DoneStep, Env, EnvHasItsNames, EventFault, IfCalled, LegAt, LevelsStayInOrder, MostSpecificIsGiven, Plan, PlanInOrder, SetInOrder, StepCall, StepInOrder, StepPlan, TextPlace, ValueFault, Work, WorkInOrder, begin_found, begin_leg, call_if, condition_value, decided, directory_value, env_value, flow_env, job_env, laid_over, last_set, leg_at, leg_env, leg_status, next_step, or_below, overlaid, seen_from, set_over, step_call, step_decision, step_env, text_text, then_value, value_at, work_value}
 use Rattle.status_table.proofs.Found.{leg_stands}
 use Rattle.board_decisions.proofs.Lists.{same_some}
 use Rattle.board_settled.proofs.Begins.{begins, by_decision, either}
@@ -52,17 +52,17 @@ pub record Asked (at : LegAt) (step : StepPlan) (call : StepCall) : Type 0 where
   pub work : work_value (seen_from at TextPlace.StepText call.env) step.work ≡ Ok call.work
 
 pub asked : (l : ℕ) (at : LegAt) (step : StepPlan) (call : StepCall) → step_decision l at step ≡ Ok (Some call) → Asked at step call
-unfolding step_decision
+unfolding step_decision step_call step_env
 asked l at step call h =
-    let env = then-ok (step_env at step) (λ env. then_value (condition_value (seen_from at TextPlace.StepCondition env) (leg_status at) step.condition) (called_if l at step env)) (Some call) h in
-    let held = then-ok (condition_value (seen_from at TextPlace.StepCondition env.0) (leg_status at) step.condition) (called_if l at step env.0) (Some call) env.2 in
+    let env = then-ok (step_env at step) (λ env. then_value (condition_value (seen_from at TextPlace.StepCondition env) (leg_status at) step.condition) (call_if (seen_from at) l (length at.leg.steps) step env)) (Some call) h in
+    let held = then-ok (condition_value (seen_from at TextPlace.StepCondition env.0) (leg_status at) step.condition) (call_if (seen_from at) l (length at.leg.steps) step env.0) (Some call) env.2 in
     called env.0 env.1 held.0 held.1 held.2
   where
     made : (env : Env) (given : CallWork) → StepCall
     made env given = record { leg = l; step = length at.leg.steps; work = given; env = env }
 
     called : (env : Env) → step_env at step ≡ Ok env → (c : Bool) → condition_value (seen_from at TextPlace.StepCondition env) (leg_status at) step.condition ≡ Ok c
-        → called_if l at step env c ≡ Ok (Some call) → Asked at step call
+        → call_if (seen_from at) l (length at.leg.steps) step env c ≡ Ok (Some call) → Asked at step call
     called env is true held g =
         let given = then-ok (work_value (seen_from at TextPlace.StepText env) step.work) (λ asked. Ok (Some (made env asked))) (Some call) g in
         let same : made env given.0 ≡ call = cc given.2 in

@@ -23,7 +23,7 @@ last_leg_wins b job name ascend =
     giving name (ended_legs b job) [] ascend ∙ none_below (last_giving name (map (λ leg. leg.outputs) (ended_legs b job)))
 
 pub nothing_set : NothingSetIsTheJobs
-unfolding leg_env
+unfolding leg_env job_env
 nothing_set at none = by (job_env at)
   where
     by : (r : Result Env ValueFault) → then_value r (λ below. Ok (set_over at.leg.steps below)) ≡ r

@@ -2,7 +2,6 @@ pub mod Agrees
 pub mod Alone
 pub mod CallLaws
 pub mod Contexts
-pub mod Decided
 pub mod DecisionLaws
 pub mod Free
 pub mod Grouped

@@ -4,9 +4,8 @@
 -- run was told to. Where there is no answer to a call, neither that step is given nor what needs it.
 use Rattle.std.specs.Prelude.{ℕ, suc, ◌+◌, ◌-◌, ◌==◌, ◌++◌, ◌&&◌, Bool, true, false, not, List, [], ◌∷◌, map, length, Option, Some, None, Result, Ok, Err, option_map, is_some, slice_get, if◌then◌else◌}
 use Rattle.std.specs.List.{flat_map, list_all, list_any, filter_map}
-use Rattle.status_table.specs.Words.{Answer, DoneStep, Env, JobPlan, Outcome, Plain, Plan, RunPlan, Status, StepCall, StepPlan, TextPlace, ValueFault, any_ancestor, condition_value, contexts_at, holds, holds_at, is_cancelled, is_failure, is_success, laid_over, object, outcome_of, outputs_of, overlaid, set_by, skipped_step, status_by, status_of, with_env, ◌>>=◌}
-use Rattle.board_settled.specs.Decided.{step_call, failure_counts, leg_passes, outputs_of_leg}
-use Rattle.board_settled.specs.Sees.{Spot, Sight, sight, job_sees, leg_sees, need_shown}
+use Rattle.status_table.specs.Words.{Answer, DoneStep, Env, JobPlan, Outcome, Plain, Plan, RunPlan, Sight, Status, StepCall, StepPlan, TextPlace, ValueFault, any_ancestor, condition_value, contexts_at, holds, holds_at, is_cancelled, is_failure, is_success, job_passes, job_sees, laid_over, need_shown, object, outcome_of, outputs_of, outputs_of_leg, overlaid, set_by, sight, skipped_step, status_by, status_of, step_call, step_passes, with_env, ◌>>=◌}
+use Rattle.board_settled.specs.Sees.{Spot, leg_sees}
 
 -- What answers a call, if there is an answer.
 abbrev pub Answers : Type 0
@@ -92,10 +91,15 @@ unfoldable pub next_call : Spot → List DoneStep → StepPlan → Result (Optio
 next_call spot done step =
     step_call (seen_after spot done) (status_of (counts done)) spot.run spot.job spot.number done step
 
+-- How a failure of the next step counts: one that may be passed over counts as a success.
+abbrev pub failure_counts : Spot → List DoneStep → StepPlan → Outcome
+failure_counts spot done step =
+    if step_passes (seen_after spot done) spot.run spot.job done step then Outcome.Success else Outcome.Failure
+
 -- How an outcome counts for the next step.
 abbrev pub concludes : Spot → List DoneStep → StepPlan → Outcome → Outcome
 concludes spot done step Outcome.Success = Outcome.Success
-concludes spot done step Outcome.Failure = failure_counts (seen_after spot done) spot.run spot.job done step
+concludes spot done step Outcome.Failure = failure_counts spot done step
 concludes spot done step Outcome.Cancelled = Outcome.Cancelled
 concludes spot done step Outcome.Skipped = Outcome.Skipped
 
@@ -137,7 +141,7 @@ unfoldable pub finish_of : Spot → List DoneStep → Finish
 finish_of spot done =
     record {
       result = counts done;
-      tolerated = leg_passes (seen_after spot done) spot.job (counts done);
+      tolerated = is_failure (counts done) && job_passes (seen_after spot done) spot.job;
       outputs = outputs_of_leg (seen_after spot done) spot.run spot.job done;
     }
 

@@ -2,9 +2,9 @@
 use Rattle.std.proofs.Common.{◌≡◌, ◌==◌, ℕ, ℤ, pos, Bool, true, not, List, [], ◌∷◌, length, Option, Some, None, Result, Ok, Err, if◌then◌else◌, refl, ap, sym, subst, ◌∙◌, arith}
 use Rattle.std.proofs.lemmas.Bool.Decides.{nat_tests}
 use Rattle.status_table.specs.Words.{Answer, Beginning, Board, Entry, Leads, LegAt, LegState, Outcome, Plan, Plays, Refuses, Reply, Row, StepCall, ValueFault, calling_owner, decided, ending, ending_by, failed_step, is_called, leg_state_set, skipped_step, step_done, then_after, without_reply}
-use Rattle.status_table.specs.Answers.{AnswersEntry, Decides}
+use Rattle.status_table.specs.Answers.{Answers, AnswersEntry, Decides}
 use Rattle.status_table.specs.Seen.{ended_step}
-use Rattle.status_table.specs.Unasked.{begins_by, begins_of, begins_called, IsLeftOf}
+use Rattle.status_table.specs.Unasked.{begins_by, begins_of, begins_called}
 use Rattle.status_table.specs.declared.fault.EventFault.{EventFault}
 use Rattle.status_table.specs.declared.unasked.Begins.{Begins}
 
@@ -59,6 +59,12 @@ begun_board b worker at Begins.Faults = step_done b at.place worker (failed_step
 abbrev begun : Board → ℕ → LegAt → Result Begins EventFault → Option Board
 begun b worker at (Ok k) = Some (begun_board b worker at k)
 begun b worker at (Err f) = None
+
+-- It is what is left of an answer whose reply nobody asked for.
+pub record IsLeftOf (r : Row) (old : Board) (result : Result (Unit {0}) EventFault) (new : Board) : Type 0 where
+  pub answer : Result Reply EventFault
+  pub answers : Answers r old answer new
+  pub same : result ≡ without_reply answer
 
 -- What leads to the row's board is left of an answer.
 pub left_of : (r : Row) (old : Board) (result : Result (Unit {0}) EventFault) (new : Board) → Leads r old result new → IsLeftOf r old result new

@@ -1,7 +1,7 @@
 -- Entries whose reply nobody asks for.
 use Rattle.std.specs.Prelude.{◌≡◌, Bool, true, false, Some, Result, Ok, Err}
 use Rattle.plan_values.specs.Words.{Board, Reply, ValueFault}
-use Rattle.status_table.specs.Answers.{Answers, Refuses}
+use Rattle.status_table.specs.Answers.{Refuses}
 use Rattle.status_table.specs.Row.{Row, Beginning, calls, skips, faults}
 use Rattle.status_table.specs.Runs.{then_after}
 use Rattle.status_table.specs.declared.fault.EventFault.{EventFault}
@@ -34,9 +34,3 @@ Leads r old (Err f) new = Refuses r f × (new ≡ old)
 abbrev pub without_reply : Result Reply EventFault → Result (Unit {0}) EventFault
 without_reply (Ok reply) = Ok tt
 without_reply (Err f) = Err f
-
--- It is what is left of an answer whose reply nobody asked for.
-pub record IsLeftOf (r : Row) (old : Board) (result : Result (Unit {0}) EventFault) (new : Board) : Type 0 where
-  pub answer : Result Reply EventFault
-  pub answers : Answers r old answer new
-  pub same : result ≡ without_reply answer

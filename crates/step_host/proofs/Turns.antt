@@ -2,7 +2,7 @@
 use Rattle.std.proofs.Common.{◌≡◌, ◌≢◌, ℕ, suc, ◌==◌, ◌++◌, ◌&&◌, ◌||◌, Bool, true, false, not, List, [], ◌∷◌, Option, Some, None, Result, Ok, Err, length, slice_get, nat_lt, if◌then◌else◌, ap, subst, sym, refl, ◌∙◌, arith}
 use Rattle.std.proofs.lemmas.Bool.{true≢false}
 use Rattle.std.proofs.lemmas.List.{length-append}
-use Rattle.status_table.specs.Words.{Answer, Board, CallWork, DoneStep, Entrance, JobAt, JobPlace, JobState, Leg, LegAt, LegState, Member, Outcome, Plan, Row, Run, RunAt, RunState, StepCall, StepPlan, ValueFault, What, board_legs, called_if, closed, decided, dropped, failed_step, is_closed, is_ended, is_fresh, is_full, is_going, is_open, is_stopping, is_untaken, is_well_formed, job_at, jobs_have_ended, leaves, leg_at, leg_entrance, leg_outputs, leg_result, leg_standing, leg_state_set, moved, run_at, run_entrance, run_result, run_standing, skipped_step, step_decision, step_done, step_env, stopped, then_value, with_leg}
+use Rattle.status_table.specs.Words.{Answer, Board, CallWork, DoneStep, Entrance, JobAt, JobPlace, JobState, Leg, LegAt, LegState, Member, Outcome, Plan, Row, Run, RunAt, RunState, StepCall, StepPlan, ValueFault, What, board_legs, call_if, closed, decided, dropped, failed_step, is_closed, is_ended, is_fresh, is_full, is_going, is_open, is_stopping, is_untaken, is_well_formed, job_at, jobs_have_ended, leaves, leg_at, leg_entrance, leg_outputs, leg_result, leg_standing, leg_state_set, moved, run_at, run_entrance, run_result, run_standing, seen_from, skipped_step, step_call, step_decision, step_done, step_env, stopped, then_value, with_leg}
 use Rattle.status_table.specs.declared.fault.EventFault.{EventFault}
 use Rattle.status_table.specs.Row as rows
 use Rattle.board_decisions.proofs.Lists.{and-right, same_some, no_some}
@@ -176,14 +176,14 @@ then-placed l s (Ok x) next h = h x
 then-placed l s (Err f) next h = tt
 
 decision_placed : (l : ℕ) (at : LegAt) (step : StepPlan) → PlacedCall l (length at.leg.steps) (step_decision l at step)
-unfolding step_decision
+unfolding step_decision step_call step_env
 decision_placed l at step =
-    then-placed l (length at.leg.steps) (step_env at step) _ (λ env. then-placed l (length at.leg.steps) _ (called_if l at step env) (held env))
+    then-placed l (length at.leg.steps) (step_env at step) _ (λ env. then-placed l (length at.leg.steps) _ (call_if (seen_from at) l (length at.leg.steps) step env) (held env))
   where
     made : List (List ℕ × List ℕ) → CallWork → StepCall
     made env given = record { leg = l; step = length at.leg.steps; work = given; env = env }
 
-    held : (env : List (List ℕ × List ℕ)) (c : Bool) → PlacedCall l (length at.leg.steps) (called_if l at step env c)
+    held : (env : List (List ℕ × List ℕ)) (c : Bool) → PlacedCall l (length at.leg.steps) (call_if (seen_from at) l (length at.leg.steps) step env c)
     held env true = then-placed l (length at.leg.steps) _ (λ given. Ok (Some (made env given))) (λ given. (refl, refl))
     held env false = tt
 

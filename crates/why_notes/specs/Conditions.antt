@@ -1,6 +1,6 @@
 -- Whether a condition waits for success, and which text of a step has no value.
 use Rattle.std.specs.Prelude.{ℕ, ◌&&◌, Bool, true, false, not, List, Option, Some, None, Result, Ok, Err}
-use Rattle.status_table.specs.Words.{Env, LegAt, Piece, Status, StepPlan, TextPlace, ValueFault, condition_read, condition_value, env_value, flow_env, job_env_over, laid_over, leg_status, names_status, seen_from, set_over, then_value}
+use Rattle.status_table.specs.Words.{Env, LegAt, Piece, Status, StepPlan, TextPlace, ValueFault, condition_read, condition_value, flow_env, job_variables_over, leg_status, names_status, seen_from, set_over, step_variables_over}
 use Rattle.why_facts.specs.declared.fact.StepText.{StepText}
 use Rattle.expr_value.specs.Functions.{is_success}
 
@@ -22,11 +22,6 @@ waits_in_vain condition status = waits_for_success condition && not (is_success 
 -- ---- the texts of a step in the order in which they are evaluated: the variables of the workflow, the job and the
 -- step, the condition, and then what the step does
 
--- the variables of a step over those below them
-abbrev pub step_env_over : LegAt → StepPlan → Env → Result Env ValueFault
-step_env_over at step below =
-    then_value (env_value (seen_from at TextPlace.StepEnv below) step.env) (λ above. Ok (laid_over above below))
-
 -- by what the condition comes to
 abbrev pub text_after_condition : Result Bool ValueFault → StepText
 text_after_condition (Ok holds) = StepText.Work
@@ -40,12 +35,12 @@ text_after_step at step (Err fault) = StepText.StepEnv
 
 -- by the variables of the workflow and the job
 abbrev pub text_after_job : LegAt → StepPlan → Result Env ValueFault → StepText
-text_after_job at step (Ok env) = text_after_step at step (step_env_over at step (set_over at.leg.steps env))
+text_after_job at step (Ok env) = text_after_step at step (step_variables_over (seen_from at) step (set_over at.leg.steps env))
 text_after_job at step (Err fault) = StepText.JobEnv
 
 -- by the variables of the workflow
 abbrev pub text_after_flow : LegAt → StepPlan → Result Env ValueFault → StepText
-text_after_flow at step (Ok env) = text_after_job at step (job_env_over at env)
+text_after_flow at step (Ok env) = text_after_job at step (job_variables_over (seen_from at) at.job_plan env)
 text_after_flow at step (Err fault) = StepText.FlowEnv
 
 -- the first text of a step that has no value, where one of them has none

@@ -1,6 +1,6 @@
 //! Which text of a step has no value.
 
-ghost use Rattle.std.specs.Prelude.{◌≡◌, [], IfOk, Ok, OnOk};
+ghost use Rattle.std.specs.Prelude.{◌≡◌, [], IfOk, Ok};
 ghost use Rattle.board_decisions.specs.Decisions as spec;
 ghost use Rattle.board_decisions.specs.Scenes.{leg_scene};
 ghost use Rattle.board_decisions.specs.Seen.{leg_seen};
@@ -8,26 +8,14 @@ ghost use Rattle.why_notes.specs.Conditions as causes;
 ghost use Rattle.expr_value.specs.Answer.{Gives};
 ghost use Rattle.plan_values.specs.Known.{IsKnownOf, known_env};
 
-use board_decisions::decisions::leg_result;
+use board_decisions::decisions::{know_job_over, know_set, know_step_over, leg_result, status_of};
 use board_decisions::place::SeenLeg;
 use board_decisions::scene::LegScene;
 use expr_value::Status;
-use flow_model::{Mapping, Outcome, StepPlan, Text, ValueFault, faulted};
+use flow_model::{Mapping, StepPlan, Text, ValueFault, faulted};
 use plan_values::{Known, TextPlace, condition_at, env_at};
 use std::alloc::{AllocError, Global};
 use why_facts::fact::StepText;
-
-/// A result as a status.
-fn status_of(how: Outcome) -> Status
-    ensures { result ≡ spec.status_of how }
-{
-    match how {
-        Outcome::Success => Status::Success,
-        Outcome::Failure => Status::Failure,
-        Outcome::Cancelled => Status::Cancelled,
-        Outcome::Skipped => Status::Other,
-    }
-}
 
 /// The status of a leg.
 pub(crate) fn leg_status(alloc: Global, at: &SeenLeg) -> Result<Status, AllocError>
@@ -53,68 +41,6 @@ fn flow_env(alloc: Global, at: &SeenLeg, known: &mut Known) -> Result<Mapping<Te
         TextPlace::WorkflowEnv,
         &at.run_plan.env,
     )
-}
-
-/// Lets texts see the variables of the job over others.
-fn know_job_env(
-    alloc: Global,
-    at: &SeenLeg,
-    known: &mut Known,
-    below: Mapping<Text>,
-) -> Result<(), ValueFault>
-    requires known { IsKnownOf (leg_scene at.now) known.old }
-    requires env { known_env known.old ≡ [] }
-    ensures value { Gives (λ _. known_env known.new) result
-        (spec.job_env_over (leg_seen at.now) below) }
-    ensures known { IsKnownOf (leg_scene at.now) known.new }
-{
-    let job = env_at(
-        alloc,
-        &LegScene { at },
-        known,
-        TextPlace::JobEnv,
-        &at.job_plan.env,
-    )?;
-    known.set_env(below);
-    known.lay_own_env(alloc, job)?;
-    Ok(())
-}
-
-/// Lets texts see what the done steps of a leg set over the variables that they see.
-fn know_set(alloc: Global, at: &SeenLeg, known: &mut Known) -> Result<(), AllocError>
-    requires { IsKnownOf (leg_scene at.now) known.old }
-    ensures value { OnOk result
-        (known_env known.new ≡ spec.set_over (leg_seen at.now).leg.steps (known_env known.old)) }
-    ensures known { IsKnownOf (leg_scene at.now) known.new }
-{
-    let steps = at.leg.steps.as_slice();
-    for done in steps {
-        known.lay_env(alloc, &done.env)?;
-    }
-    Ok(())
-}
-
-/// Lets texts see the variables of a step over those that they see.
-fn know_step_env(
-    alloc: Global,
-    at: &SeenLeg,
-    known: &mut Known,
-    step: &StepPlan,
-) -> Result<(), ValueFault>
-    requires { IsKnownOf (leg_scene at.now) known.old }
-    ensures value { Gives (λ _. known_env known.new) result
-        (causes.step_env_over (leg_seen at.now) step.now (known_env known.old)) }
-    ensures known { IsKnownOf (leg_scene at.now) known.new }
-{
-    let own = env_at(
-        alloc,
-        &LegScene { at },
-        known,
-        TextPlace::StepEnv,
-        &step.env,
-    )?;
-    known.lay_own_env(alloc, own)?;
-    Ok(())
 }
 
 /// The text that has no value, where the variables of a step are known.
@@ -155,7 +81,7 @@ fn text_after_job(
         (Ok (known_env known.old))) }
 {
     know_set(alloc, at, known)?;
-    match know_step_env(alloc, at, known, step) {
+    match know_step_over(alloc, at, known, step) {
         Ok(()) => text_after_step(alloc, at, known, step),
         Err(ValueFault::Memory) => Err(AllocError),
         Err(faulted!()) => Ok(StepText::StepEnv),
@@ -175,7 +101,7 @@ fn text_after_flow(
     ensures { IfOk result
         (λ text. text ≡ causes.text_after_flow (leg_seen at.now) step.now (Ok flow)) }
 {
-    match know_job_env(alloc, at, known, flow) {
+    match know_job_over(alloc, at, known, flow) {
         Ok(()) => text_after_job(alloc, at, known, step),
         Err(ValueFault::Memory) => Err(AllocError),
         Err(faulted!()) => Ok(StepText::JobEnv),

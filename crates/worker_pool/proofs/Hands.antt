@@ -1,7 +1,7 @@
 -- One thread's leg, from its Take to its Finish.
 use Rattle.std.proofs.Common.{◌≡◌, ◌≢◌, ℕ, ◌==◌, Bool, true, false, not, [], ◌∷◌, ◌++◌, Option, Some, None, Result, Ok, Err, length, slice_get, nat_lt, if◌then◌else◌, inl, inr, ap, subst, sym, refl, ◌∙◌}
 use Rattle.std.proofs.lemmas.Bool.{cases_eq}
-use Rattle.status_table.specs.Words.{Answer, Board, CallWork, DoneStep, Env, Event, Leg, LegAt, LegState, Plan, Reply, StepCall, StepPlan, TextPlace, ValueFault, What, board_legs, called_if, changed, condition_value, is_stopping, leg_at, leg_outputs, leg_result, leg_standing, leg_status, moved, moves, seen_from, step_decision, step_env, then_value, with_leg, work_value}
+use Rattle.status_table.specs.Words.{Answer, Board, CallWork, DoneStep, Env, Event, Leg, LegAt, LegState, Plan, Reply, StepCall, StepPlan, TextPlace, ValueFault, What, board_legs, call_if, changed, condition_value, is_stopping, leg_at, leg_outputs, leg_result, leg_standing, leg_status, moved, moves, seen_from, step_call, step_decision, step_env, then_value, with_leg, work_value}
 use Rattle.status_table.specs.declared.fault.EventFault.{EventFault}
 use Rattle.status_table.specs.Row as rows
 use Rattle.status_table.proofs.Decided.{by_test}
@@ -78,7 +78,7 @@ IsOf l step (Ok (Some call)) = (call.leg ≡ l) × (call.step ≡ step)
 IsOf l step (Err f) = Unit {0}
 
 decision_is_of : (l : ℕ) (at : LegAt) (step : StepPlan) → IsOf l (length at.leg.steps) (step_decision l at step)
-unfolding step_decision
+unfolding step_decision step_call step_env
 decision_is_of l at step = by_env (step_env at step)
   where
     by_work : (env : Env) (w : Result CallWork ValueFault)
@@ -86,14 +86,14 @@ decision_is_of l at step = by_env (step_env at step)
     by_work env (Ok asked) = (refl, refl)
     by_work env (Err f) = tt
 
-    by_condition : (env : Env) (r : Result Bool ValueFault) → IsOf l (length at.leg.steps) (then_value r (called_if l at step env))
+    by_condition : (env : Env) (r : Result Bool ValueFault) → IsOf l (length at.leg.steps) (then_value r (call_if (seen_from at) l (length at.leg.steps) step env))
     by_condition env (Ok true) = by_work env (work_value (seen_from at TextPlace.StepText env) step.work)
     by_condition env (Ok false) = tt
     by_condition env (Err f) = tt
 
     by_env : (e : Result Env ValueFault)
         → IsOf l (length at.leg.steps)
-        (then_value e (λ env. then_value (condition_value (seen_from at TextPlace.StepCondition env) (leg_status at) step.condition) (called_if l at step env)))
+        (then_value e (λ env. then_value (condition_value (seen_from at TextPlace.StepCondition env) (leg_status at) step.condition) (call_if (seen_from at) l (length at.leg.steps) step env)))
     by_env (Ok env) = by_condition env (condition_value (seen_from at TextPlace.StepCondition env) (leg_status at) step.condition)
     by_env (Err f) = tt
 
