@@ -1,13 +1,13 @@
 -- A run that its Close ended without success names its jobs with that result, and no others.
-use Rattle.std.proofs.Common.{◌≡◌, ◌≢◌, ◌⊎◌, inl, inr, ◌∙◌, ap, sym, refl, subst, ℕ, suc, ◌+◌, arith, Bool, true, false, ◌&&◌, ◌||◌, Contains, IfSome, List, [], ◌∷◌, ◌++◌, Option, Some, None, Ok, Err, slice_get, if◌then◌else◌, true≢false}
+use Rattle.std.proofs.Common.{◌≡◌, ◌≢◌, ◌⊎◌, inl, inr, ◌∙◌, ap, sym, refl, subst, ℕ, ◌+◌, arith, Bool, true, false, ◌&&◌, ◌||◌, Contains, IfSome, List, [], ◌∷◌, ◌++◌, Option, Some, None, Ok, Err, slice_get, if◌then◌else◌, true≢false}
 use Rattle.std.proofs.lemmas.List.Elements.{Contains-append_right}
 use Rattle.status_table.specs.Words.{Board, Entry, IsPlan, Job, JobFits, JobPlan, JobState, Member, NeedsPointBack, Outcome, Plan, Reply, Run, RunAt, RunFits, RunState, RunStays, SoundPlan, after, close_found, close_run, close_waiting, event_row, is_any_job_cancelled, is_any_job_failed, is_cancelled, is_failure, is_going, job_has_ended, job_result, jobs_have_ended, new_board, run_at, run_closes, run_result}
 use Rattle.board_decisions.proofs.Lists.{and-left, and-right, no_some}
 use Rattle.why_causes.proofs.Changing.{made_by}
-use Rattle.why_causes.proofs.MetFirst.{contains_cases, contains_here, contains_none, contains_at}
+use Rattle.why_causes.proofs.MetFirst.{contains_here, contains_none, contains_at}
 use Rattle.why_causes.proofs.Noting.{accepted_event, notes_are_made}
 use Rattle.why_causes.proofs.Staying.{some_passes, stays_unsuccessful}
-use Rattle.why_causes.specs.Causes.{asked, causes, counts, first_job, is_judged, job_sought, jobs_asked, run_asked, run_fact_asked, run_last, run_noted_asked, stop_asked}
+use Rattle.why_causes.specs.Causes.{causes, counts, first_job, is_judged, job_sought, jobs_asked, run_asked, run_fact_asked, run_last, run_noted_asked, stop_asked}
 use Rattle.why_causes.specs.Endings.{HasResult, NamesJobsOfResult, ClosedFor}
 use Rattle.why_causes.specs.Made.{MadeAt}
 use Rattle.why_causes.specs.declared.question.Question.{Question}
@@ -22,7 +22,7 @@ use Rattle.status_table.proofs.Counts.{zip-left}
 use Rattle.status_table.proofs.Found.{RunStands, run_stands}
 use Rattle.status_table.proofs.Lists.{all-get, zip-get}
 use Rattle.why_causes.proofs.Past.{Past, beside, past, same_plan}
-use Rattle.why_causes.proofs.Obstacles.{item_asked}
+use Rattle.why_causes.proofs.Obstacles.{asked_item, item_asked}
 use Rattle.why_causes.specs.Agrees.{RunAgrees, RunNow}
 use Rattle.why_causes.specs.Stands.{RunIs}
 use Rattle.why_facts.specs.declared.fact.MemberFact.{MemberFact}
@@ -31,31 +31,6 @@ use Rattle.why_facts.specs.declared.fact.MemberFact.{MemberFact}
 
 pub some_there : {T : Type 0} (xs : List T) (x : T) → Contains xs x → xs ≢ []
 some_there xs x there e = contains_none x (subst (λ ys. Contains ys x) e there)
-
--- Nothing is asked about but items that pass.
-pub record AskedOf {A : Type 0} (ask : ℕ → Question) (n : ℕ) (test : A → Bool) (xs : List A) (q : Question) : Type 0 where
-  pub place : ℕ
-  pub item : A
-  pub there : slice_get xs place ≡ Some item
-  pub passes : test item ≡ true
-  pub is : q ≡ ask (n + place)
-
-pub asked_item : {A : Type 0} (ask : ℕ → Question) (n : ℕ) (test : A → Bool) (xs : List A) (q : Question) → Contains (asked ask n test xs) q → AskedOf ask n test xs q
-asked_item ask n test [] q there = absurd (contains_none q there)
-asked_item {A} ask n test (y ∷ xs) q there = by (test y) refl (λ k. later (asked_item ask (suc n) test xs q k)) there
-  where
-    later : AskedOf ask (suc n) test xs q → AskedOf ask n test (y ∷ xs) q
-    later x =
-        let next : suc n + x.place ≡ n + suc x.place = omega arith in
-        record { place = suc x.place; item = x.item; there = x.there; passes = x.passes; is = x.is ∙ ap ask next }
-
-    by : (b : Bool) → test y ≡ b → (Contains (asked ask (suc n) test xs) q → AskedOf ask n test (y ∷ xs) q)
-        → Contains (if b then ask n ∷ asked ask (suc n) test xs else asked ask (suc n) test xs) q → AskedOf ask n test (y ∷ xs) q
-    by true passes after k = elim (contains_cases (ask n) (asked ask (suc n) test xs) q k) as (λ _. AskedOf ask n test (y ∷ xs) q) [
-      | inl e ↦ let none : n ≡ n + 0 = omega arith in record { place = 0; item = y; there = refl; passes = passes; is = sym e ∙ ap ask none }
-      | inr more ↦ after more
-    ]
-    by false passes after k = after k
 
 -- ---- a run that is closed
 

@@ -1,14 +1,15 @@
 -- Where others keep a job, a run or a leg from going on, or bring a job to its result, they are named.
-use Rattle.std.proofs.Common.{◌≡◌, ◌∙◌, ap, sym, refl, subst, ℕ, zero, suc, ◌+◌, ◌-◌, arith, Bool, true, false, List, [], ◌∷◌, ◌++◌, Option, Some, None, slice_get, map, true≢false}
-use Rattle.std.specs.Prelude.{◌≢◌, Result, Ok, Err, not, ◌&&◌, ◌||◌, if◌then◌else◌}
+use Rattle.std.proofs.Common.{◌≡◌, ◌⊎◌, inl, inr, ◌∙◌, ap, sym, refl, subst, ℕ, zero, suc, ◌+◌, ◌-◌, arith, Bool, true, false, List, [], ◌∷◌, ◌++◌, Option, Some, None, slice_get, map, true≢false}
+use Rattle.std.specs.Prelude.{◌≢◌, Contains, Result, Ok, Err, not, ◌&&◌, ◌||◌, if◌then◌else◌}
 use Rattle.std.specs.List.{list_all, list_any}
 use Rattle.status_table.specs.Words.{Board, Entrance, Event, Job, JobPlace, JobState, Leg, LegState, Outcome, Reply, Row, Run, RunState, ValueFault, ask_found, board_legs, close_found, close_run, closed, event_row, first_number, first_of, has_failed, holds_at, is_fresh, is_full, is_going, is_open, is_stopping, job_condition, job_has_ended, job_status, jobs_have_ended, judge_found, judge_job, judged_state, judgement_by, leaves, leg_enters, leg_entrance, legs_result, needs_have_ended, run_closes, run_result, run_standing, was_cancelled}
 use Rattle.why_facts.specs.declared.fact.MemberFact.{MemberFact}
 use Rattle.why_facts.specs.declared.notes.MemberNote.{MemberNote}
 use Rattle.why_facts.specs.declared.notes.JobNotes.{JobNotes}
 use Rattle.why_causes.specs.Agrees.{LegAgrees, LegNow, LegStill, RunAgrees, RunNow}
-use Rattle.why_causes.specs.Causes.{asked, causes, first_leg, fresh_asked, going_asked, job_asked, job_sought, job_state_asked, jobs_asked, leg_asked, leg_last, leg_noted_asked, leg_sought, needs_asked, run_asked, run_fact_asked, run_last, run_noted_asked, slots_asked, stopping_asked}
-use Rattle.why_causes.specs.Obstacles.{LegsOfResultsAreNamed, OpenJobsAreNamed, OpenNeedsAreNamed, TakenSlotsAreNamed}
+use Rattle.why_causes.specs.Causes.{asked, causes, first_job, first_leg, fresh_asked, going_asked, job_asked, job_sought, job_state_asked, jobs_asked, leg_asked, leg_last, leg_noted_asked, leg_sought, needs_asked, run_asked, run_fact_asked, run_last, run_noted_asked, slots_asked, stopping_asked}
+use Rattle.why_causes.specs.Obstacles.{AsksExactly, IsOpenJob, IsOpenNeed, LegsOfResultsAreNamed, OpenJobsAreNamed, OpenNeedsAreNamed, TakenSlotsAreNamed, TakesSlot}
+use Rattle.why_causes.proofs.MetFirst.{contains_at, contains_cases, contains_here, contains_later, contains_none}
 use Rattle.why_causes.specs.Stands.{RunIs}
 use Rattle.why_causes.specs.declared.question.Question.{Question}
 use Rattle.why_causes.specs.declared.sought.Sought.{Sought}
@@ -69,6 +70,41 @@ item_asked {A} ask n test (y ∷ xs) (suc k) x at is =
     there true i e = (suc i, e)
     there false i e = (i, e)
 
+-- Nothing is asked about but items that pass.
+pub record AskedOf {A : Type 0} (ask : ℕ → Question) (n : ℕ) (test : A → Bool) (xs : List A) (q : Question) : Type 0 where
+  pub place : ℕ
+  pub item : A
+  pub there : slice_get xs place ≡ Some item
+  pub passes : test item ≡ true
+  pub is : q ≡ ask (n + place)
+
+pub asked_item : {A : Type 0} (ask : ℕ → Question) (n : ℕ) (test : A → Bool) (xs : List A) (q : Question) → Contains (asked ask n test xs) q → AskedOf ask n test xs q
+asked_item ask n test [] q there = absurd (contains_none q there)
+asked_item {A} ask n test (y ∷ xs) q there = by (test y) refl (λ k. later (asked_item ask (suc n) test xs q k)) there
+  where
+    later : AskedOf ask (suc n) test xs q → AskedOf ask n test (y ∷ xs) q
+    later x =
+        let next : suc n + x.place ≡ n + suc x.place = omega arith in
+        record { place = suc x.place; item = x.item; there = x.there; passes = x.passes; is = x.is ∙ ap ask next }
+
+    by : (b : Bool) → test y ≡ b → (Contains (asked ask (suc n) test xs) q → AskedOf ask n test (y ∷ xs) q)
+        → Contains (if b then ask n ∷ asked ask (suc n) test xs else asked ask (suc n) test xs) q → AskedOf ask n test (y ∷ xs) q
+    by true passes after k = elim (contains_cases (ask n) (asked ask (suc n) test xs) q k) as (λ _. AskedOf ask n test (y ∷ xs) q) [
+      | inl e ↦ let none : n ≡ n + 0 = omega arith in record { place = 0; item = y; there = refl; passes = passes; is = sym e ∙ ap ask none }
+      | inr more ↦ after more
+    ]
+    by false passes after k = after k
+
+-- Those items are asked about whose numbers are so.
+asks_exactly : {A : Type 0} (ask : ℕ → Question) (n : ℕ) (test : A → Bool) (xs : List A) (Is : ℕ → Type 0)
+    → ((m : ℕ) → Is m → (k : ℕ) × (x : A) × (slice_get xs k ≡ Some x) × (test x ≡ true) × (m ≡ n + k))
+    → ((k : ℕ) (x : A) → slice_get xs k ≡ Some x → test x ≡ true → Is (n + k)) → AsksExactly (asked ask n test xs) ask Is
+asks_exactly ask n test xs Is of are = record {
+  all = λ m so. let x = of m so in let there = item_asked ask n test xs x.0 x.1 x.2 x.3 in
+      subst (λ i. Contains (asked ask n test xs) (ask i)) (sym x.4) (contains_at (asked ask n test xs) there.0 (ask (n + x.0)) there.1);
+  alone = λ q there. let x = asked_item ask n test xs q there in (n + x.place, are x.place x.item x.there x.passes, x.is);
+}
+
 -- ---- rows that refuse
 
 abbrev accepted : Row → Type 0
@@ -112,6 +148,42 @@ left_needs first run [] some = absurd (some refl)
 left_needs first run (n ∷ ns) some =
     left-need (ended_at first run n) (list_all (ended_at first run) ns) (Question.Job n) (needs_asked first run ns) (left_needs first run ns) some
 
+-- The needs that are asked about are those that have not ended.
+needs_all : (first : ℕ) (run : Run) (needs : List ℕ) (n : ℕ) → Contains needs n → ended_at first run n ≡ false → Contains (needs_asked first run needs) (Question.Job n)
+needs_all first run [] n there unended = absurd (contains_none n there)
+needs_all first run (m ∷ ms) n there unended = by (ended_at first run m) refl (λ more. needs_all first run ms n more unended) (contains_cases m ms n there)
+  where
+    rest : List Question
+    rest = needs_asked first run ms
+
+    by : (b : Bool) → ended_at first run m ≡ b → (Contains ms n → Contains rest (Question.Job n)) → (m ≡ n) ⊎ Contains ms n
+        → Contains (if b then rest else Question.Job m ∷ rest) (Question.Job n)
+    by true is later (inl same) = absurd (true≢false (sym is ∙ ap (ended_at first run) same ∙ unended))
+    by true is later (inr more) = later more
+    by false is later (inl same) = subst (λ k. Contains (Question.Job m ∷ rest) (Question.Job k)) same (contains_here (Question.Job m) rest)
+    by false is later (inr more) = contains_later (Question.Job m) rest (Question.Job n) (later more)
+
+abbrev OpenNeed : ℕ → Run → List ℕ → Question → Type 0
+OpenNeed first run needs q = (n : ℕ) × Contains needs n × (ended_at first run n ≡ false) × (q ≡ Question.Job n)
+
+needs_alone : (first : ℕ) (run : Run) (needs : List ℕ) (q : Question) → Contains (needs_asked first run needs) q → OpenNeed first run needs q
+needs_alone first run [] q there = absurd (contains_none q there)
+needs_alone first run (m ∷ ms) q there = by (ended_at first run m) refl (λ k. longer (needs_alone first run ms q k)) there
+  where
+    rest : List Question
+    rest = needs_asked first run ms
+
+    longer : OpenNeed first run ms q → OpenNeed first run (m ∷ ms) q
+    longer x = (x.0, contains_later m ms x.0 x.1, x.2, x.3)
+
+    by : (b : Bool) → ended_at first run m ≡ b → (Contains rest q → OpenNeed first run (m ∷ ms) q) → Contains (if b then rest else Question.Job m ∷ rest) q
+        → OpenNeed first run (m ∷ ms) q
+    by true is later k = later k
+    by false is later k = elim (contains_cases (Question.Job m) rest q k) as (λ _. OpenNeed first run (m ∷ ms) q) [
+      | inl e ↦ (m, contains_here m ms, is, sym e)
+      | inr more ↦ later more
+    ]
+
 judge-refused : (b : Board) (place : JobPlace) (s : JobState) (c : Bool) → judge_job b place (if c then Ok s else Err EventFault.NeedsOpen) ≡ Err EventFault.NeedsOpen → c ≡ false
 judge-refused b place s true h = absurd (subst accepted h tt)
 judge-refused b place s false h = refl
@@ -124,8 +196,14 @@ pub open_needs : OpenNeedsAreNamed
 open_needs a j at worker play is going unjudged =
     let state = judged_state at.run.stop (job_condition at (job_status first at)) in
     record {
-      all = λ h. subst (λ qs. qs ≢ []) (sym below) (needs_left first at.run at.plan.needs (judge-refused a.board at.place state ended (sym row ∙ h)));
-      alone = λ some. row ∙ judge-refuses a.board at.place state ended (left_needs first at.run at.plan.needs (subst (λ qs. qs ≢ []) below some));
+      named = record {
+        all = λ h. subst (λ qs. qs ≢ []) (sym below) (needs_left first at.run at.plan.needs (judge-refused a.board at.place state ended (sym row ∙ h)));
+        alone = λ some. row ∙ judge-refuses a.board at.place state ended (left_needs first at.run at.plan.needs (subst (λ qs. qs ≢ []) below some));
+      };
+      exactly = subst (λ qs. AsksExactly qs Question.Job (IsOpenNeed at)) (sym below) (record {
+        all = λ n so. needs_all first at.run at.plan.needs n so.needed so.unended;
+        alone = λ q there. let x = needs_alone first at.run at.plan.needs q there in (x.0, record { needed = x.1; unended = x.2 }, x.3);
+      });
     }
   where
     first : ℕ
@@ -179,6 +257,9 @@ open_jobs p es a r at worker account is going =
         alone = λ some. row ∙ refuses ending EventFault.NeedsOpen (jobs_have_ended at.run)
             (not-true (jobs_have_ended at.run) (sym (any_unended at.run at.run.jobs) ∙ any_asked Question.Job _ _ at.run.jobs some));
       };
+      exactly = asks_exactly Question.Job (first_job at.plan.jobs) (job_sought Sought.Unended at.run) at.run.jobs (IsOpenJob at)
+          (λ n so. (so.place, so.job, so.there, ap not so.unended, so.numbered))
+          (λ k job there unended. record { place = k; job = job; there = there; unended = not-true (job_has_ended at.run job) unended; numbered = refl });
     }
   where
     ending : Board × Reply
@@ -237,9 +318,10 @@ taken_slots p es a l at worker account is may =
     record {
       legs = slots_asked l at;
       below = below;
-      all = λ h k leg there under. subst (λ qs. (n : ℕ) × (slice_get qs n ≡ Some (Question.Leg (l - at.place.leg + k))))
-          (sym (ap (λ f. if f then taken else []) (full (sym h ∙ row))))
-          (item_asked Question.Leg (l - at.place.leg) (leg_sought Sought.UnderWay) at.job.legs k leg there under);
+      taken = λ h. subst (λ qs. AsksExactly qs Question.Leg (TakesSlot l at)) (sym (ap (λ f. if f then taken else []) (full (sym h ∙ row))))
+          (asks_exactly Question.Leg (l - at.place.leg) (leg_sought Sought.UnderWay) at.job.legs (TakesSlot l at)
+          (λ n so. (so.place, so.leg, so.there, so.under_way, so.numbered))
+          (λ k leg there under. record { place = k; leg = leg; there = there; under_way = under; numbered = refl }));
       alone = λ some. row ∙ ap asking (some-full (is_full at.job_plan at.job) taken some);
     }
   where

@@ -10,10 +10,9 @@ use Rattle.status_table.proofs.Found.{JobStands, job_stands, leg_stands}
 use Rattle.status_table.proofs.Legal.{after_fits}
 use Rattle.status_table.proofs.Lists.{bind-some}
 use Rattle.status_table.proofs.Numbers.{jobs_are_numbered, jobs_before, number_of_job}
-use Rattle.why_causes.proofs.ClosedRuns.{asked_item}
 use Rattle.why_causes.proofs.FirstLegs.{first_leg_is}
 use Rattle.why_causes.proofs.MetFirst.{contains_at}
-use Rattle.why_causes.proofs.Obstacles.{item_asked, open_jobs, open_needs, result_legs, taken_slots}
+use Rattle.why_causes.proofs.Obstacles.{asked_item, item_asked, open_jobs, open_needs, result_legs, taken_slots}
 use Rattle.why_causes.specs.Causes.{asked, causes, job_asked, job_state_asked, leg_counts, leg_sought, opened_sought, was_tolerated}
 use Rattle.why_causes.specs.Obstacles.{Brings, NamesItsLegs, ObstaclesAreNamed, OpenedJobsNameLegs}
 use Rattle.why_causes.specs.declared.question.Question.{Question}

@@ -1,42 +1,75 @@
 -- Where others keep a job, a run or a leg from going on, or bring a job to its result, they are named.
-use Rattle.std.specs.Prelude.{◌≡◌, ◌≢◌, ◌+◌, ◌-◌, ◌++◌, ℕ, Bool, true, false, Contains, List, [], Some, Err, slice_get}
-use Rattle.status_table.specs.Words.{Entry, Event, InPlay, JobAt, JobState, Leg, LegAt, LegState, Member, Outcome, Plan, RunAt, event_row, is_ended, is_going, is_under_way, job_at, job_has_ended, job_of, leg_at, legs_result, may_ask, run_at}
-use Rattle.why_causes.specs.Causes.{causes, stop_asked, stopping_asked}
+use Rattle.std.specs.Prelude.{◌≡◌, ◌≢◌, ◌+◌, ◌-◌, ◌++◌, ℕ, Bool, true, false, Contains, List, [], Some, Err, map, slice_get}
+use Rattle.status_table.specs.Words.{Entry, Event, InPlay, Job, JobAt, JobState, Leg, LegAt, LegState, Member, Outcome, Plan, RunAt, event_row, first_number, holds_at, is_ended, is_going, is_under_way, job_at, job_has_ended, job_of, leg_at, legs_result, may_ask, run_at}
+use Rattle.why_causes.specs.Causes.{causes, first_job, stop_asked, stopping_asked}
 use Rattle.why_causes.specs.declared.question.Question.{Question}
 use Rattle.why_notes.specs.Account.{Account, account_of}
 use Rattle.status_table.specs.declared.fault.EventFault.{EventFault}
+
+-- These questions are asked, each by a number that is so, and all such numbers are asked about.
+pub record AsksExactly (asks : List Question) (ask : ℕ → Question) (Is : ℕ → Type 0) : Type 0 where
+  pub all : (n : ℕ) → Is n → Contains asks (ask n)
+  pub alone : (q : Question) → Contains asks q → (n : ℕ) × Is n × (q ≡ ask n)
 
 -- A row refuses for what others have not done just where some are named.
 pub record NamesWhere (refused : Type 0) (named : List Question) : Type 0 where
   pub all : refused → named ≢ []
   pub alone : named ≢ [] → refused
 
--- The table refuses to judge a job, since needs have not ended, just where a need of it is named.
+-- The job with a number is one that another needs, and has not ended.
+pub record IsOpenNeed (at : JobAt) (number : ℕ) : Type 0 where
+  pub needed : Contains at.plan.needs number
+  pub unended : holds_at (map (job_has_ended at.run) at.run.jobs) (number - first_number at) ≡ false
+
+-- Below a job stand its needs that have not ended, and nothing else; some of them, just where the row refuses for them.
+pub record NamesNeeds (a : Account) (j : ℕ) (at : JobAt) (refused : Type 0) : Type 0 where
+  pub named : NamesWhere refused (causes a (Question.Job j))
+  pub exactly : AsksExactly (causes a (Question.Job j)) Question.Job (IsOpenNeed at)
+
+-- So it is of a job that was not judged, where the table refuses to judge it.
 abbrev pub OpenNeedsAreNamed : Type 0
 OpenNeedsAreNamed =
     (a : Account) (j : ℕ) (at : JobAt) (worker : ℕ) → InPlay a.plan a.board → job_at a.plan a.board j ≡ Some at
     → is_going at.run.state ≡ true → at.job.state ≡ JobState.Unjudged
-    → NamesWhere (event_row a.plan a.board worker (Event.Judge j) ≡ Err EventFault.NeedsOpen) (causes a (Question.Job j))
+    → NamesNeeds a j at (event_row a.plan a.board worker (Event.Judge j) ≡ Err EventFault.NeedsOpen)
 
--- The jobs that are named below a run, beside that it was told to stop.
+-- The job with a number, of those that follow the first of a run, has not ended.
+pub record IsOpenJob (at : RunAt) (number : ℕ) : Type 0 where
+  pub place : ℕ
+  pub job : Job
+  pub there : slice_get at.run.jobs place ≡ Some job
+  pub unended : job_has_ended at.run job ≡ false
+  pub numbered : number ≡ first_job at.plan.jobs + place
+
+-- Below a run stand its jobs that have not ended, and nothing else beside that it was told to stop; some of them, just where the
+-- row refuses for them.
 pub record NamesJobs (a : Account) (r : ℕ) (at : RunAt) (refused : Type 0) : Type 0 where
   pub jobs : List Question
   pub below : causes a (Question.Run r) ≡ stop_asked (Member.Run r) at.run.stop ++ jobs
   pub named : NamesWhere refused jobs
+  pub exactly : AsksExactly jobs Question.Job (IsOpenJob at)
 
--- The table refuses to close a run that is Going, since jobs have not ended, just where a job of it is named.
+-- So it is of a run that is Going, where the table refuses to close it.
 abbrev pub OpenJobsAreNamed : Type 0
 OpenJobsAreNamed =
     (p : Plan) (es : List Entry) (a : Account) (r : ℕ) (at : RunAt) (worker : ℕ) → account_of p es ≡ Some a
     → run_at a.plan a.board r ≡ Some at → is_going at.run.state ≡ true
     → NamesJobs a r at (event_row a.plan a.board worker (Event.Close r) ≡ Err EventFault.NeedsOpen)
 
--- The legs that are named below one that has not asked, beside why it is to stop. Where it is refused, all that are under way are.
+-- The leg with a number is one of the job of leg l, and is under way.
+pub record TakesSlot (l : ℕ) (at : LegAt) (number : ℕ) : Type 0 where
+  pub place : ℕ
+  pub leg : Leg
+  pub there : slice_get at.job.legs place ≡ Some leg
+  pub under_way : is_under_way leg.state ≡ true
+  pub numbered : number ≡ l - at.place.leg + place
+
+-- The legs that are named below one that has not asked, beside why it is to stop: where it is refused, those that are under way,
+-- and no others; else none.
 pub record NamesLegs (a : Account) (l : ℕ) (at : LegAt) (refused : Type 0) : Type 0 where
   pub legs : List Question
   pub below : causes a (Question.Leg l) ≡ stopping_asked l at ++ legs
-  pub all : refused → (k : ℕ) (leg : Leg) → slice_get at.job.legs k ≡ Some leg → is_under_way leg.state ≡ true
-      → (n : ℕ) × (slice_get legs n ≡ Some (Question.Leg (l - at.place.leg + k)))
+  pub taken : refused → AsksExactly legs Question.Leg (TakesSlot l at)
   pub alone : legs ≢ [] → refused
 
 -- The table refuses to let a leg ask, since no slot is free, just where those are named that take the slots.

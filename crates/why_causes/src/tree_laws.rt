@@ -12,9 +12,9 @@ pub fn nothing_is_asked_twice()
     ensures { NothingIsAskedTwice }
 {}
 
-/// Below a job, a run or a leg that the table refuses, since needs or jobs have not ended or no slot is free, stand those that
-/// are in its way, and such are named there only then. Below a job that was opened stand all its legs that have not ended, or
-/// that bring it to its result, and nothing else; one at least, where it had no success.
+/// Below a job or a run that the table refuses, since needs or jobs have not ended, stand exactly those; below a leg for which no
+/// slot is free, exactly the legs that take the slots. Such are named there only then. Below a job that was opened stand all its
+/// legs that have not ended, or that bring it to its result, and nothing else; one at least, where it had no success.
 #[tactic(auto, using(crate::proofs::OpenedJobs::obstacles_are_named))]
 pub fn obstacles_are_named()
     ensures { ObstaclesAreNamed }
