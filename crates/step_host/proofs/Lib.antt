@@ -1,3 +1,4 @@
+pub mod Answered
 mod Copied
 pub mod Counted
 pub mod Kept

@@ -192,6 +192,17 @@ abbrev pub Answers : Answer → List ℕ → List ℕ → Result Answer Refusal 
 Answers answer given set (Ok told) = (told ≡ answer) × (answer ≢ BadOutput)
 Answers answer given set (Err why) = (answer ≡ BadOutput) × IsReason given set why
 
+-- A call is answered whose program ended with this code and wrote these outputs: by them and by the bytes of the file of its
+-- variables, or as bad output where that file cannot be read.
+abbrev pub AnsweredWith : Option ℤ → List ℕ → Result Answer Refusal → Type 0
+AnsweredWith code given (Err (Refusal.NoVariables kind)) = Unit {0}
+AnsweredWith code given end = (set : List ℕ) × Answers (ended code given set) given set end
+
+-- A call is answered whose program ended with this code: by the bytes of its two files, or as bad output where one cannot be read.
+abbrev pub AnsweredBy : Option ℤ → Result Answer Refusal → Type 0
+AnsweredBy code (Err (Refusal.NoOutputs kind)) = Unit {0}
+AnsweredBy code end = (given : List ℕ) × AnsweredWith code given end
+
 -- ---- what may fail
 
 -- What was done, or the kind of what failed; where memory ran out, that is told apart.

@@ -334,12 +334,14 @@ impl<R: Processes + Files<File = File>> ProgramHost<R> {
     }
 
     /// The answer of a program with this exit status.
+    #[tactic(auto, using(crate::proofs::Answered::answered_by))]
     fn answer(
         &self,
         call: &StepCall,
         status: ExitStatus,
     ) -> Result<Result<Answer, Refusal>, AllocError>
-        ensures { IfOk result (λ end. IfOk end (λ a. is_well_formed a ≡ true)) }
+        ensures answered { IfOk result (λ end. spec.AnsweredBy (exit_code status) end) }
+        ensures well_formed { IfOk result (λ end. IfOk end (λ a. is_well_formed a ≡ true)) }
     {
         match self.outputs(call)? {
             Ok(outputs) => self.answer_with(call, status, &outputs),
@@ -348,6 +350,7 @@ impl<R: Processes + Files<File = File>> ProgramHost<R> {
     }
 
     /// The answer of a program with this exit status, which wrote this into the file of its outputs.
+    #[tactic(auto, using(crate::proofs::Answered::answered_with))]
     fn answer_with(
         &self,
         call: &StepCall,
@@ -355,7 +358,9 @@ impl<R: Processes + Files<File = File>> ProgramHost<R> {
         outputs: &FileBytes,
     ) -> Result<Result<Answer, Refusal>, AllocError>
         requires { outputs.now.name ≡ spec.out_file self.now.work call.now }
-        ensures { IfOk result (λ end. IfOk end (λ a. is_well_formed a ≡ true)) }
+        ensures answered { IfOk result
+            (λ end. spec.AnsweredWith (exit_code status) outputs.now.bytes.items end) }
+        ensures well_formed { IfOk result (λ end. IfOk end (λ a. is_well_formed a ≡ true)) }
     {
         match self.env(call)? {
             Ok(env) => {
