@@ -155,3 +155,8 @@ of_no_masks (b ∷ text) = ap (λ (t : List ℕ). b ∷ t) (of_no_masks text)
 pub nothing_masked : (masks : List (List ℕ)) (text : List ℕ) → (length masks == 0) ≡ true → masked masks text ≡ text
 nothing_masked [] text none = of_no_masks text
 nothing_masked (mask ∷ masks) text none = absurd (grind (arith, nat_tests))
+
+-- no masks in both lists mask nothing
+pub nothing_masked_by_both : (given own : List (List ℕ)) (text : List ℕ) → (length given == 0) ≡ true → (length own == 0) ≡ true → masked (given ++ own) text ≡ text
+nothing_masked_by_both [] own text none no_own = nothing_masked own text no_own
+nothing_masked_by_both (mask ∷ given) own text none no_own = absurd (grind (arith, nat_tests))

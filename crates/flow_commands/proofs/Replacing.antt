@@ -1,5 +1,5 @@
 -- A text in which something is replaced, place by place.
-use Rattle.std.proofs.Common.{◌≡◌, ℕ, zero, suc, ◌+◌, ◌-◌, ◌<◌, ◌≤◌, Option, Some, None, List, [], ◌∷◌, ◌++◌, length, get_or, take, drop, refl, sym, ap, ◌∙◌, arith, append_assoc, drop-cons, add-one}
+use Rattle.std.proofs.Common.{◌≡◌, ℕ, zero, suc, ◌+◌, ◌-◌, ◌<◌, ◌≤◌, Option, Some, None, List, [], ◌∷◌, ◌++◌, length, get_or, take, drop, refl, sym, ap, ◌∙◌, arith, append_assoc, drop-cons, add-one, length-append}
 use Rattle.std.proofs.Math.Seq.{take-suc}
 use Rattle.flow_commands.specs.Replace.{Rule, put, replaced_after, replaced}
 
@@ -35,3 +35,9 @@ replaced_further rule text i within none so_far =
     ap (λ (t : List ℕ). t ++ replaced rule (drop (suc i) text)) (take-suc text i 0 within)
     ∙ append_assoc (take i text) (get_or text i 0 ∷ []) (replaced rule (drop (suc i) text))
     ∙ ap (λ (t : List ℕ). take i text ++ t) (sym past) ∙ so_far)
+
+-- a place of a piece at the front is one of the text
+pub within_piece : (text piece after : List ℕ) (i : ℕ) → text ≡ piece ++ after → i < length piece → i < length text
+within_piece text piece after i whole inside =
+    let size : length text ≡ length (piece ++ after) = ap length whole in
+    omega (arith, size, inside, length-append piece after)

@@ -1,9 +1,10 @@
 -- What is shown of the logs of steps: what their programs printed.
-use Rattle.std.specs.Prelude.{ℕ, ◌==◌, if◌then◌else◌, List, [], ◌∷◌, ◌++◌, flat_map, map, codes, string_bytes, Option, Some, None}
+use Rattle.std.specs.Prelude.{◌≡◌, ℕ, ◌==◌, if◌then◌else◌, List, [], ◌∷◌, ◌++◌, flat_map, map, codes, string_bytes, Option, Some, None}
 use Rattle.std.specs.Str.{is_utf8}
 use Rattle.flow_commands.specs.CommandTexts.{commands, read_from}
 use Rattle.flow_commands.specs.Shown.{masks_added, shown}
 use Rattle.flow_commands.specs.declared.line.Line.{Line}
+use Rattle.flow_commands.specs.declared.line.Line.TheVariants.{Plain}
 use Rattle.flow_commands.specs.declared.logs.LogTeller.{LogTeller}
 
 -- a log: the number of the leg, and its bytes, if it could be read
@@ -58,6 +59,10 @@ logs_text given added (log ∷ logs) =
     ++ logs_text given (added ++ of_leg log.0 (log_told (leg_masks given added log.0) log.1).1) logs
 
 -- ---- what the code answers on the way
+
+-- A line is no command, and ends no `stop-commands`, wherever it stands.
+abbrev pub IsPlain : List ℕ → Type 0
+IsPlain line = (stop : Option (List ℕ)) (lines : List (List ℕ)) → read_from stop (line ∷ lines) ≡ Plain line ∷ read_from stop lines
 
 -- What is shown of a log, and the masks of its leg, once these lines follow those that were told.
 abbrev pub told_with : List (List ℕ) → LogTeller → List (List ℕ) → List ℕ × List (List ℕ)

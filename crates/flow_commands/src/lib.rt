@@ -26,8 +26,8 @@ mod splits;
 
 pub use command_lines::read_commands;
 pub use line::Line;
-pub use logs::LogTeller;
-pub use masks::{Masks, mask, mask_by_both};
+pub use logs::{LogTeller, plain_line};
+pub use masks::{Masks, mask};
 pub use output_fault::OutputFault;
 pub use pair_file::{read_env_file, read_output_file};
 pub use shell::shell_words;

@@ -1,15 +1,14 @@
 //! What is shown of the logs of steps, line by line: what their programs printed.
 
-ghost use Rattle.std.specs.Prelude.{◌≡◌, [], ◌∷◌, ◌++◌, ℕ, IsTrue, List, None, OnOk, Option, string_bytes};
+ghost use Rattle.std.specs.Prelude.{◌≡◌, ◌<◌, [], ◌∷◌, ◌++◌, codes, ℕ, IfOk, IfSome, IsTrue, length, List, None, OnOk, string_bytes};
 ghost use Rattle.flow_model.specs.Lines.{lines_of};
-ghost use Rattle.flow_commands.specs.CommandTexts.{read_from};
-ghost use Rattle.flow_commands.specs.Logs.{lines_text, told_with};
+ghost use Rattle.flow_commands.specs.Logs.{IsPlain, lines_text, told_with};
+ghost use Rattle.flow_commands.specs.Mask.{masked};
 ghost use Rattle.flow_commands.specs.Shown.{line_shown as line_shown_of, masked_line};
-ghost use Rattle.flow_commands.specs.declared.line.Line.TheVariants.{Plain};
 
 use crate::command_lines::read_line;
 use crate::line::Line;
-use crate::masks::{Masks, mask_by_both};
+use crate::masks::{Masks, mask_first};
 use crate::showing::{add_own_mask, line_shown};
 use crate::splits::{after_front, first_line, from_text};
 use flow_model::Text;
@@ -29,13 +28,27 @@ pub struct LogTeller {
 
 /// Whether a line is no command, and ends no `stop-commands`, wherever it stands.
 fn is_plain(line: &str) -> bool
-    ensures { IsTrue result → (stop : Option (List ℕ)) (lines : List (List ℕ))
-        → read_from stop (line.now ∷ lines) ≡ Plain line.now ∷ read_from stop lines }
+    ensures { IsTrue result → IsPlain line.now }
 {
     match after_front(from_text(line), "::") {
         Some(_) => false,
         None => true,
     }
+}
+
+/// The line that a text is, without its newline, if it is one line and no command, and ends no `stop-commands`.
+pub fn plain_line(text: &str) -> Option<&str>
+    ensures line { IfSome result (λ line. lines_of text.now ≡ line.now ∷ []) }
+    ensures plain { IfSome result (λ line. IsPlain line.now) }
+{
+    if text.is_empty() {
+        return None;
+    }
+    let (line, rest) = first_line(text);
+    if rest.is_empty() && is_plain(line) {
+        return Some(line);
+    }
+    None
 }
 
 impl LogTeller {
@@ -53,6 +66,37 @@ impl LogTeller {
         }
     }
 
+    /// Adds the first of what is left of a line, masked, and answers what follows it.
+    ///
+    /// # Errors
+    ///
+    /// There is no memory.
+    pub fn show_some<'t>(&mut self, given: &Masks, text: &'t str) -> Result<&'t str, AllocError>
+        requires { 0 < length text.now }
+        ensures shown { IfOk result (λ rest. string_bytes self.new.shown
+            ++ masked (given.now ++ self.old.masks) rest.now
+            ≡ string_bytes self.old.shown ++ masked (given.now ++ self.old.masks) text.now) }
+        ensures shorter { IfOk result (λ rest. length rest.now < length text.now) }
+        ensures masks { self.new.masks ≡ self.old.masks }
+        ensures stop { self.new.stop ≡ self.old.stop }
+    {
+        mask_first(&mut self.shown, text, given, &self.masks)
+    }
+
+    /// Adds the newline of a line that was shown.
+    ///
+    /// # Errors
+    ///
+    /// There is no memory.
+    pub fn end_line(&mut self) -> Result<(), AllocError>
+        ensures shown { OnOk result
+            (string_bytes self.new.shown ≡ string_bytes self.old.shown ++ codes "\n") }
+        ensures masks { self.new.masks ≡ self.old.masks }
+        ensures stop { self.new.stop ≡ self.old.stop }
+    {
+        self.shown.push_str("\n")
+    }
+
     /// Adds a text, masked, and a newline.
     fn show_text(&mut self, given: &Masks, text: &str) -> Result<(), AllocError>
         ensures shown { OnOk result (string_bytes self.new.shown ≡ string_bytes self.old.shown
@@ -60,9 +104,11 @@ impl LogTeller {
         ensures masks { self.new.masks ≡ self.old.masks }
         ensures stop { self.new.stop ≡ self.old.stop }
     {
-        let masked = mask_by_both(self.alloc, text, given, &self.masks)?;
-        self.shown.push_str(masked.as_str())?;
-        self.shown.push_str("\n")
+        let mut rest = text;
+        while !rest.is_empty() {
+            rest = self.show_some(given, rest)?;
+        }
+        self.end_line()
     }
 
     /// Adds what is shown of a line, masked, if it is shown.

@@ -1,12 +1,12 @@
 //! Texts in which what must not be seen is masked.
 
-ghost use Rattle.std.specs.Prelude.{◌≡◌, ◌==◌, ◌∷◌, [], ◌++◌, ◌<◌, ◌≤◌, IfOk, IfSome, OnErr, OnOk, length, take};
+ghost use Rattle.std.specs.Prelude.{◌≡◌, ◌==◌, ◌∷◌, [], ◌++◌, ◌<◌, ◌≤◌, IfOk, IfSome, OnErr, OnOk, length, string_bytes, take};
 ghost use Rattle.std.specs.Option.{option_map};
 ghost use Rattle.std.specs.Str.{IsUtf8};
 ghost use Rattle.flow_commands.specs.Mask.{longest as longest_of, masked, stars as stars_of};
 
 use crate::mask_tree::MaskTree;
-use crate::replace::{Rule, replace};
+use crate::replace::{Rule, push_first, replace, replace_first};
 use flow_model::{Duplicate, Sequence, Text};
 use std::alloc::{AllocError, Global};
 use std::marker::Model;
@@ -157,12 +157,30 @@ pub fn mask(alloc: Global, text: &str, masks: &Masks) -> Result<Text, AllocError
     replace(alloc, text, &Masking { masks })
 }
 
+/// Adds a text, up to its first mask of both lists with three stars for that, or its first piece, to what was made, and answers
+/// what follows.
+pub(crate) fn mask_first<'t>(
+    made: &mut String,
+    text: &'t str,
+    given: &Masks,
+    own: &Masks,
+) -> Result<&'t str, AllocError>
+    requires { 0 < length text.now }
+    ensures made { IfOk result (λ rest. string_bytes made.new ++ masked (given.now ++ own.now) rest.now
+        ≡ string_bytes made.old ++ masked (given.now ++ own.now) text.now) }
+    ensures shorter { IfOk result (λ rest. length rest.now < length text.now) }
+{
+    if !own.is_empty() {
+        return replace_first(made, text, &MaskingByBoth { given, own });
+    }
+    if !given.is_empty() {
+        return replace_first(made, text, &Masking { masks: given });
+    }
+    push_first(made, text)
+}
+
 /// The text with three stars for the masks of both lists, as `mask` puts them for one list.
-///
-/// # Errors
-///
-/// There is no memory.
-pub fn mask_by_both(
+pub(crate) fn mask_by_both(
     alloc: Global,
     text: &str,
     given: &Masks,
@@ -170,8 +188,10 @@ pub fn mask_by_both(
 ) -> Result<Text, AllocError>
     ensures { IfOk result (λ shown. shown ≡ masked (given.now ++ own.now) text.now) }
 {
-    if own.is_empty() {
-        return mask(alloc, text, given);
+    let mut made = String::new(alloc);
+    let mut rest = text;
+    while !rest.is_empty() {
+        rest = mask_first(&mut made, rest, given, own)?;
     }
-    replace(alloc, text, &MaskingByBoth { given, own })
+    Ok(Text::new(made))
 }

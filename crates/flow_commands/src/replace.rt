@@ -1,6 +1,6 @@
 //! Texts in which something is replaced.
 
-ghost use Rattle.std.specs.Prelude.{◌≡◌, ◌+◌, ◌<◌, ◌≤◌, ◌++◌, IfOk, IfSome, MatchOption, length, take, drop, List, ℕ, nat_eq, IsTrue};
+ghost use Rattle.std.specs.Prelude.{◌≡◌, ◌+◌, ◌<◌, ◌≤◌, ◌++◌, IfOk, IfSome, length, take, drop, List, ℕ, nat_eq, IsTrue, string_bytes};
 ghost use Rattle.std.specs.List.{starts_with};
 ghost use Rattle.std.specs.Option.{option_map};
 ghost use Rattle.std.specs.Str.{IsUtf8};
@@ -42,22 +42,70 @@ fn tail(bytes: &[u8], place: usize) -> &[u8]
     &bytes[place..]
 }
 
-/// The text before the first place where something is replaced, what it is replaced by, and what follows it.
-fn first_place<'t, R: Rule>(text: &'t str, rule: &R) -> Option<(&'t str, &'static str, &'t str)>
-    ensures { MatchOption result
-        (replaced (R.rule rule.now) text.now ≡ text.now)
-        (λ x. (replaced (R.rule rule.now) text.now
-        ≡ x.0.now ++ (x.1.now ++ replaced (R.rule rule.now) x.2.now))
-        × (length x.2.now < length text.now)) }
+/// How many bytes a piece of a text has, if there are more: it ends at the first place from there where a text may be cut.
+const MOST_PIECE: usize = 65_536;
+
+/// The first piece of a text, and what follows it.
+fn first_piece(text: &str) -> (&str, &str)
+    requires { 0 < length text.now }
+    ensures whole { text.now ≡ result.0.now ++ result.1.now }
+    ensures shorter { length result.1.now < length text.now }
 {
-    for place in 0..text.len() {
+    for place in MOST_PIECE..text.len() {
+        if text.is_char_boundary(place) {
+            return text.split_at(place);
+        }
+    }
+    (text, "")
+}
+
+/// The text before the first place where something is replaced, what it is replaced by, and what follows it. Where nothing is
+/// replaced in the first piece, that is this piece, nothing, and what follows the piece.
+fn first_place<'t, R: Rule>(text: &'t str, rule: &R) -> (&'t str, &'static str, &'t str)
+    requires { 0 < length text.now }
+    ensures parts { replaced (R.rule rule.now) text.now
+        ≡ result.0.now ++ (result.1.now ++ replaced (R.rule rule.now) result.2.now) }
+    ensures shorter { length result.2.now < length text.now }
+{
+    let (piece, after) = first_piece(text);
+    for place in 0..piece.len() {
         if let Some((put, length)) = rule.at(tail(text.as_bytes(), place)) {
             let (front, back) = text.split_at(place);
             let (_, rest) = back.split_at(length);
-            return Some((front, put, rest));
+            return (front, put, rest);
         }
     }
-    None
+    (piece, "", after)
+}
+
+/// Adds the first piece of a text to what was made, and answers what follows it.
+pub(crate) fn push_first<'t>(made: &mut String, text: &'t str) -> Result<&'t str, AllocError>
+    requires { 0 < length text.now }
+    ensures made { IfOk result
+        (λ rest. string_bytes made.new ++ rest.now ≡ string_bytes made.old ++ text.now) }
+    ensures shorter { IfOk result (λ rest. length rest.now < length text.now) }
+{
+    let (piece, rest) = first_piece(text);
+    made.push_str(piece)?;
+    Ok(rest)
+}
+
+/// Adds a text to what was made, up to the first place where something is replaced, and what it is replaced by, or the first
+/// piece where nothing is. It answers what follows.
+pub(crate) fn replace_first<'t, R: Rule>(
+    made: &mut String,
+    text: &'t str,
+    rule: &R,
+) -> Result<&'t str, AllocError>
+    requires { 0 < length text.now }
+    ensures made { IfOk result (λ rest. string_bytes made.new ++ replaced (R.rule rule.now) rest.now
+        ≡ string_bytes made.old ++ replaced (R.rule rule.now) text.now) }
+    ensures shorter { IfOk result (λ rest. length rest.now < length text.now) }
+{
+    let (front, put, rest) = first_place(text, rule);
+    made.push_str(front)?;
+    made.push_str(put)?;
+    Ok(rest)
 }
 
 /// The text with all replaced that the rule replaces, in one pass from the left.
@@ -70,11 +118,8 @@ pub fn replace<R: Rule>(alloc: Global, text: &str, rule: &R) -> Result<Text, All
 {
     let mut made = String::new(alloc);
     let mut rest = text;
-    while let Some((front, put, after)) = first_place(rest, rule) {
-        made.push_str(front)?;
-        made.push_str(put)?;
-        rest = after;
+    while !rest.is_empty() {
+        rest = replace_first(&mut made, rest, rule)?;
     }
-    made.push_str(rest)?;
     Ok(Text::new(made))
 }

@@ -5,9 +5,9 @@ use denote.Text.{Utf8}
 use Rattle.flow_commands.specs.Replace.{replaced}
 use Rattle.flow_commands.proofs.replace.replace.Given as goal
 
-abbrev pub invariant-loop-front : goal.invariant-loop-front
-invariant-loop-front g l =
+abbrev pub invariant-loop-rest : goal.invariant-loop-rest
+invariant-loop-rest g l =
     (string_bytes l.made ++ replaced (g.R.Rule.rule l.rule) l.rest ≡ replaced (g.R.Rule.rule l.rule) l.text) × shadow (Utf8 l.rest)
 
-abbrev pub decreases-loop-front : goal.decreases-loop-front
-decreases-loop-front g l = length l.rest
+abbrev pub decreases-loop-rest : goal.decreases-loop-rest
+decreases-loop-rest g l = length l.rest
