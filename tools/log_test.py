@@ -7,6 +7,7 @@ from __future__ import annotations
 
 import json
 import os
+import re
 import shutil
 import signal
 import subprocess
@@ -76,11 +77,28 @@ class LongLogs(unittest.TestCase):
             self.assertEqual(self.shown.read_bytes(), b"x" * length + b"\nerror\nout\nerror\nrun 0 success\n")
 
     def test_one_long_line(self) -> None:
-        """A line is shown whole, and takes its own length a few times."""
-        length = 30_000_000 if ALL else 3_000_000
+        """A line is shown whole, and takes its own length once."""
+        length = 200_000_000 if ALL else 16_000_000
         most, _ = self.execute(f"head -c {length} /dev/zero | tr '\\0' x; echo; echo end")
         self.assertEqual(self.shown.read_bytes(), b"x" * length + b"\nend\nrun 0 success\n")
-        self.assertLess(most, MOST_BYTES + 6 * length)
+        self.assertLess(most, MOST_BYTES + length)
+
+    def test_masks_and_characters_where_a_long_line_is_cut(self) -> None:
+        """A long line is shown as a short one, wherever its masks and its characters of several bytes stand."""
+        masks = ["secret", "secret key", "\u00e4\u00f6"]
+        texts = ["secret key", "secret secret", "\u00e4\u00f6\u00e4", "\U0001d11e"]
+        lines = ["x" * (1_048_576 - len(it) // 2) + it + "end" for it in texts]
+        for border in (65_536, 131_072):
+            lines += ["x" * (border - before) + it + "end" for it in texts for before in range(1 + len(it.encode()))]
+        lines += ["secret" * 50_000, "\U0001d11e" * 50_000, "x" * 65_536, "x" * 65_537, "", " :" + "x" * 200_000]
+        # the first is no command, and the others are commands
+        lines += ["::" + "x" * 200_000 + "secret", "::notice::" + "x" * 200_000 + "secret", "::debug::" + "x" * 200_000, "end"]
+        log = self.room / "log"
+        log.write_text("\n".join([*(f"::add-mask::{it}" for it in masks), *lines]) + "\n", encoding="utf-8")
+        self.execute(f"cat {log}")
+        wanted = [re.sub("^::notice::", "notice: ", it) for it in lines if not it.startswith("::debug::")]
+        text = re.sub("|".join(sorted(masks, key=len, reverse=True)), "***", "\n".join(wanted))
+        self.assertTrue(self.shown.read_text(encoding="utf-8") == text + "\nrun 0 success\n", "what is shown differs")
 
     def test_bytes_that_are_no_text_at_the_end(self) -> None:
         """The whole log is one line then, as for bytes at its beginning."""

@@ -1,5 +1,5 @@
 -- What is shown of the lines of a log, told and written piece by piece.
-use Rattle.std.proofs.Common.{◌≡◌, ℕ, ◌==◌, Bool, true, false, not, ◌&&◌, IsTrue, if◌then◌else◌, string_bytes, Option, Some, None, Ok, Err, inl, inr, List, [], ◌∷◌, ◌++◌, flat_map, refl, sym, ap, subst, ◌∙◌, append_assoc, append-nil, arith}
+use Rattle.std.proofs.Common.{◌≡◌, ℕ, ◌==◌, Bool, true, false, not, ◌&&◌, IsTrue, if◌then◌else◌, string_bytes, Option, Some, None, Ok, Err, inl, inr, List, [], ◌∷◌, ◌++◌, codes, flat_map, length, refl, sym, ap, subst, ◌∙◌, append_assoc, append-nil, arith}
 use Rattle.std.proofs.lemmas.Bool.Decides.{nat_tests}
 use Rattle.std.proofs.lemmas.List.Concat.{flat_map-append}
 use Rattle.std.proofs.lemmas.Str.{IsUtf8-append, IsUtf8-from_is_utf8, is_utf8-from_IsUtf8}
@@ -7,17 +7,19 @@ use Rattle.std.specs.Prelude.{IsErr}
 use Rattle.std.specs.Str.{IsUtf8, is_utf8}
 use Rattle.std.specs.declared.alloc.AllocError.{AllocError}
 use Rattle.status_table.specs.Words.{is_line, lines_of, newline, onto_first}
-use Rattle.command_io.proofs.Known.{Appends-nothing, Appends-then, puts_more}
+use Rattle.command_io.proofs.Known.{Appends-nothing, cut_within, puts_more, written_more}
 use Rattle.command_io.proofs.Told.{IsKept-same, Puts-as}
 use Rattle.command_io.specs.Stream.{Stream, IsCutOff, IsWritten, Puts, TakesLine, TakesLines}
 use Rattle.flow_model.proofs.LineLemmas.{lines_of-line}
 use Rattle.flow_model.proofs.Tests.{pair}
 use Rattle.flow_commands.specs.CommandTexts.{commands, read_from}
-use Rattle.flow_commands.specs.Logs.{Told, bytes_told, leg_masks, line_text, lines_text, lines_told, logs_text, mask_for, no_text, of_leg, told_with}
+use Rattle.flow_commands.specs.Logs.{IsPlain, Told, bytes_told, leg_masks, line_text, lines_text, lines_told, logs_text, mask_for, no_text, of_leg, told_with}
+use Rattle.flow_commands.specs.Mask.{masked}
 use Rattle.flow_commands.specs.Shown.{masks_added, shown}
+use Rattle.flow_commands.specs.declared.line.Line.{Line}
 use Rattle.flow_commands.specs.declared.logs.LogTeller.{LogTeller}
-use Rattle.command_run.proofs.Telling.{begun_after}
-use Rattle.command_run.specs.StepLogs.{AreAdded, BeginsWith, EndsAs, FileGives, FileIs, GetsLine, HandsOn, PutsLines, PutsLog, PutsText, ShowsLog, Written, files_of}
+use Rattle.command_run.proofs.Telling.{begun_after, part_after}
+use Rattle.command_run.specs.StepLogs.{AreAdded, BeginsWith, EndsAs, FileGives, FileIs, GetsLine, HandsOn, PutsLines, PutsLog, PutsNext, PutsText, ShowsLog, Written, behind, files_of}
 use Rattle.command_run.specs.declared.log_files.LogKind.{LogKind}
 use Rattle.command_run.specs.declared.log_files.LogKind.TheVariants.{NoText, Text}
 
@@ -122,15 +124,136 @@ read_more first now next piece read gets utf8 = record {
 pub ends_no_text : (log after : Stream) (text : List ℕ) → GetsLine log after text → (IsUtf8 text → ⊥) → EndsAs log NoText
 ends_no_text log after text gets unread = (gets.line, after, gets.read, λ utf8. unread (subst IsUtf8 (sym gets.is) utf8))
 
--- ---- lines that are told and written
+-- ---- the next lines
 
 abbrev told_by : List (List ℕ) → List ℕ → List (List ℕ) → Option (List ℕ) → List (List ℕ) → List ℕ × List (List ℕ)
 told_by given text masks stop lines =
     (text ++ lines_text (shown (given ++ masks) (read_from stop lines)), masks ++ flat_map masks_added (read_from stop lines))
 
--- a text before what is told
-abbrev behind : List ℕ → List ℕ × List (List ℕ) → List ℕ × List (List ℕ)
-behind text told = (text ++ told.0, told.1)
+-- what is shown was written, or is still gathered, before what follows
+hands_told : (given : List (List ℕ)) (log log' : LogTeller) (b c : Stream) (hands : HandsOn log log' b c true) (lines : List (List ℕ))
+    → told_with given log lines ≡ behind hands.0 (told_with given log' lines)
+hands_told given log log' b c (part, put, text, masks, stop) lines =
+    ap (λ (t : List ℕ). told_by given t log.masks log.stop lines) text
+    ∙ ap (λ (ms : List (List ℕ)). told_by given (part ++ string_bytes log'.shown) ms log.stop lines) (sym masks)
+    ∙ ap (λ (s : Option (List ℕ)). told_by given (part ++ string_bytes log'.shown) log'.masks s lines) (sym stop)
+    ∙ ap (λ (t : List ℕ). (t, log'.masks ++ flat_map masks_added (read_from log'.stop lines)))
+    (append_assoc part (string_bytes log'.shown) (lines_text (shown (given ++ log'.masks) (read_from log'.stop lines))))
+
+-- lines that were told, of which what is shown was handed on
+pub next_handed : (given : List (List ℕ)) (log log' log'' : LogTeller) (next : List (List ℕ)) (b c : Stream) (going : Bool)
+    → ((lines : List (List ℕ)) → told_with given log (next ++ lines) ≡ told_with given log' lines) → HandsOn log' log'' b c going
+    → PutsNext given log log'' next b c (Ok going)
+next_handed given log log' log'' next b c true more hands = (hands.0, hands.1, λ lines. more lines ∙ hands_told given log' log'' b c hands lines)
+next_handed given log log' log'' next b c false more cut =
+    let all : (told_with given log next).0 ≡ string_bytes log'.shown =
+    ap (λ (ls : List (List ℕ)). (told_with given log ls).0) (sym (append-nil next)) ∙ ap (λ (t : List ℕ × List (List ℕ)). t.0) (more []) ∙ append-nil (string_bytes log'.shown) in
+    subst (IsCutOff b c) (sym all) cut
+
+-- there was no memory for them
+pub next_stopped : (given : List (List ℕ)) (log log' : LogTeller) (next : List (List ℕ)) (b : Stream) (how : Written) → IsErr how → PutsNext given log log' next b b how
+next_stopped given log log' next b (Err e) failed =
+    let all = (told_with given log next).0 in begun_after b b b [] all all (Appends-nothing b.bytes, refl) (IsKept-same b) refl
+next_stopped given log log' next b (Ok whole) failed = let no : false ≡ true = failed in absurd (cc)
+
+-- ---- a line that is no command
+
+-- Some of the line was shown, and a beginning of what is shown was written.
+pub record ShownLine (given : List (List ℕ)) (first log : LogTeller) (line rest : List ℕ) (out out' : Stream) : Type 0 where
+  pub part : List ℕ
+  pub written : IsWritten out out' part
+  pub is : string_bytes first.shown ++ masked (given ++ first.masks) line ≡ part ++ (string_bytes log.shown ++ masked (given ++ first.masks) rest)
+  pub masks : log.masks ≡ first.masks
+  pub stop : log.stop ≡ first.stop
+
+pub line_begins : (given : List (List ℕ)) (log : LogTeller) (line : List ℕ) (out : Stream) → ShownLine given log log line line out out
+line_begins given log line out = record { part = []; written = (Appends-nothing out.bytes, refl); is = refl; masks = refl; stop = refl }
+
+-- more of it was shown
+pub line_more : (given : List (List ℕ)) (first log log' : LogTeller) (line rest rest' : List ℕ) (a b : Stream) → ShownLine given first log line rest a b
+    → string_bytes log'.shown ++ masked (given ++ log.masks) rest' ≡ string_bytes log.shown ++ masked (given ++ log.masks) rest
+    → log'.masks ≡ log.masks → log'.stop ≡ log.stop → ShownLine given first log' line rest' a b
+line_more given first log log' line rest rest' a b told more masks stop = record {
+  part = told.part;
+  written = told.written;
+  is = told.is ∙ ap (λ (t : List ℕ). told.part ++ t)
+      (sym (subst (λ (ms : List (List ℕ)).
+      string_bytes log'.shown ++ masked (given ++ ms) rest' ≡ string_bytes log.shown ++ masked (given ++ ms) rest) told.masks more));
+  masks = masks ∙ told.masks;
+  stop = stop ∙ told.stop;
+}
+
+-- what is shown was written, or is still gathered
+pub line_handed : (given : List (List ℕ)) (first log log' : LogTeller) (line rest : List ℕ) (a b c : Stream) → ShownLine given first log line rest a b
+    → HandsOn log log' b c true → ShownLine given first log' line rest a c
+line_handed given first log log' line rest a b c told (part, put, text, masks, stop) = record {
+  part = told.part ++ part;
+  written = written_more a b c told.part part told.written put;
+  is = told.is ∙ ap (λ (t : List ℕ). told.part ++ (t ++ masked (given ++ first.masks) rest)) text
+      ∙ ap (λ (t : List ℕ). told.part ++ t) (append_assoc part (string_bytes log'.shown) (masked (given ++ first.masks) rest))
+      ∙ sym (append_assoc told.part part (string_bytes log'.shown ++ masked (given ++ first.masks) rest));
+  masks = masks ∙ told.masks;
+  stop = stop ∙ told.stop;
+}
+
+-- what is told of lines that begin with it
+line_told : (given : List (List ℕ)) (first log : LogTeller) (line rest : List ℕ) (a b : Stream) → (told : ShownLine given first log line rest a b) → IsPlain line
+    → (lines : List (List ℕ)) → told_with given first (line ∷ lines) ≡ (
+      told.part ++ (string_bytes log.shown
+          ++ (masked (given ++ first.masks) rest ++ (codes "\n" ++ lines_text (shown (given ++ first.masks) (read_from first.stop lines))))),
+      first.masks ++ flat_map masks_added (read_from first.stop lines),
+    )
+line_told given first log line rest a b told plain lines =
+    let reads = read_from first.stop lines in
+    let adds = first.masks ++ flat_map masks_added reads in
+    let by = masked (given ++ first.masks) in
+    let others = lines_text (shown (given ++ first.masks) reads) in
+    let start = string_bytes first.shown in
+    ap (λ (ls : List Line). (start ++ lines_text (shown (given ++ first.masks) ls), first.masks ++ flat_map masks_added ls)) (plain first.stop lines)
+    ∙ ap (λ (ms : List (List ℕ)). (start ++ ((by line ++ codes "\n") ++ lines_text (shown ms reads)), adds)) (append-nil (given ++ first.masks))
+    ∙ ap (λ (t : List ℕ). (t, adds))
+    (ap (λ (t : List ℕ). start ++ t) (append_assoc (by line) (codes "\n") others)
+    ∙ sym (append_assoc start (by line) (codes "\n" ++ others))
+    ∙ ap (λ (t : List ℕ). t ++ (codes "\n" ++ others)) told.is
+    ∙ append_assoc told.part (string_bytes log.shown ++ by rest) (codes "\n" ++ others)
+    ∙ ap (λ (t : List ℕ). told.part ++ t) (append_assoc (string_bytes log.shown) (by rest) (codes "\n" ++ others)))
+
+nothing_left : (rest : List ℕ) → (length rest == 0) ≡ true → rest ≡ []
+nothing_left [] none = refl
+nothing_left (b ∷ rest) none = absurd (grind (arith, nat_tests))
+
+-- all of it was shown, and its newline
+pub line_put : (given : List (List ℕ)) (first log log' : LogTeller) (line rest : List ℕ) (a b : Stream) → ShownLine given first log line rest a b → IsPlain line
+    → (length rest == 0) ≡ true → string_bytes log'.shown ≡ string_bytes log.shown ++ codes "\n" → log'.masks ≡ log.masks → log'.stop ≡ log.stop
+    → PutsNext given first log' (line ∷ []) a b (Ok true)
+line_put given first log log' line rest a b told plain none ends masks stop = (
+  told.part,
+  told.written,
+  λ lines.
+      let adds = first.masks ++ flat_map masks_added (read_from first.stop lines) in
+      let others = lines_text (shown (given ++ first.masks) (read_from first.stop lines)) in
+      line_told given first log line rest a b told plain lines
+      ∙ ap (λ (r : List ℕ). (told.part ++ (string_bytes log.shown ++ (masked (given ++ first.masks) r ++ (codes "\n" ++ others))), adds)) (nothing_left rest none)
+      ∙ ap (λ (t : List ℕ). (told.part ++ t, adds))
+      (sym (append_assoc (string_bytes log.shown) (codes "\n") others) ∙ ap (λ (t : List ℕ). t ++ others) (sym ends))
+      ∙ ap (λ (ms : List (List ℕ)). behind told.part (told_by given (string_bytes log'.shown) ms first.stop lines)) (sym (masks ∙ told.masks))
+      ∙ ap (λ (s : Option (List ℕ)). behind told.part (told_by given (string_bytes log'.shown) log'.masks s lines)) (sym (stop ∙ told.stop)),
+)
+
+-- what is shown of it was cut off
+pub line_cut : (given : List (List ℕ)) (first log log' : LogTeller) (line rest : List ℕ) (a b c : Stream) → ShownLine given first log line rest a b → IsPlain line
+    → IsCutOff b c (string_bytes log.shown) → PutsNext given first log' (line ∷ []) a c (Ok false)
+line_cut given first log log' line rest a b c told plain cut =
+    cut_within a b c told.part (string_bytes log.shown) _ _ told.written (ap (λ (t : List ℕ × List (List ℕ)). t.0) (line_told given first log line rest a b told plain [])) cut
+
+-- there was no memory for more of it
+pub line_stopped : (given : List (List ℕ)) (first log log' : LogTeller) (line rest : List ℕ) (a b : Stream) (how : Written) → ShownLine given first log line rest a b
+    → IsPlain line → IsErr how → PutsNext given first log' (line ∷ []) a b how
+line_stopped given first log log' line rest a b (Err e) told plain failed =
+    begun_after a b b told.part _ _ told.written (IsKept-same b) (ap (λ (t : List ℕ × List (List ℕ)). t.0) (line_told given first log line rest a b told plain []))
+line_stopped given first log log' line rest a b (Ok whole) told plain failed = let no : false ≡ true = failed in absurd (cc)
+
+-- ---- lines that are told and written
 
 -- Whole lines of a log were told, and of what is shown of them a beginning was written.
 pub record ToldLines (given : List (List ℕ)) (first log : LogTeller) (from to out out' : Stream) : Type 0 where
@@ -148,35 +271,18 @@ no_lines given log from out = record {
   is = λ lines. refl;
 }
 
--- a line more was told
-pub line_more : (given : List (List ℕ)) (first log log' : LogTeller) (from to to' a b : Stream) (piece : List ℕ) → ToldLines given first log from to a b
-    → GetsLine to to' piece → IsUtf8 piece → ((lines : List (List ℕ)) → told_with given log (lines_of piece ++ lines) ≡ told_with given log' lines)
-    → ToldLines given first log' from to' a b
+-- lines more were told
+pub lines_more : (given : List (List ℕ)) (first log log' : LogTeller) (from to to' a b c : Stream) (piece : List ℕ) → ToldLines given first log from to a b
+    → GetsLine to to' piece → IsUtf8 piece → PutsNext given log log' (lines_of piece) b c (Ok true) → ToldLines given first log' from to' a c
 unfolding read_more
-line_more given first log log' from to to' a b piece told gets utf8 more = record {
+lines_more given first log log' from to to' a b c piece told gets utf8 (part, put, is) = record {
   read = read_more from to to' piece told.read gets utf8;
-  text = told.text;
-  written = told.written;
+  text = told.text ++ part;
+  written = written_more a b c told.text part told.written put;
   is = λ lines. ap (λ (xs : List (List ℕ)). told_with given first (xs ++ lines)) (told.read.whole piece)
       ∙ ap (told_with given first) (append_assoc (lines_of told.read.text) (lines_of piece) lines)
-      ∙ told.is (lines_of piece ++ lines) ∙ ap (behind told.text) (more lines);
-}
-
--- what is shown was written, or is still gathered
-pub handed_on : (given : List (List ℕ)) (first log log' : LogTeller) (from to a b c : Stream) → ToldLines given first log from to a b → HandsOn log log' b c true
-    → ToldLines given first log' from to a c
-handed_on given first log log' from to a b c told (part, put, text, masks, stop) = record {
-  read = told.read;
-  text = told.text ++ part;
-  written = (Appends-then _ _ _ told.text part told.written.0 put.0, put.1 ∙ told.written.1);
-  is = λ lines. told.is lines
-      ∙ ap (λ (t : List ℕ). behind told.text (told_by given t log.masks log.stop lines)) text
-      ∙ ap (λ (ms : List (List ℕ)). behind told.text (told_by given (part ++ string_bytes log'.shown) ms log.stop lines)) (sym masks)
-      ∙ ap (λ (s : Option (List ℕ)). behind told.text (told_by given (part ++ string_bytes log'.shown) log'.masks s lines)) (sym stop)
-      ∙ ap (λ (t : List ℕ). (told.text ++ t, log'.masks ++ flat_map masks_added (read_from log'.stop lines)))
-      (append_assoc part (string_bytes log'.shown) (lines_text (shown (given ++ log'.masks) (read_from log'.stop lines))))
-      ∙ ap (λ (t : List ℕ). (t, log'.masks ++ flat_map masks_added (read_from log'.stop lines)))
-      (sym (append_assoc told.text part (string_bytes log'.shown ++ lines_text (shown (given ++ log'.masks) (read_from log'.stop lines)))));
+      ∙ told.is (lines_of piece ++ lines) ∙ ap (behind told.text) (is lines)
+      ∙ ap (λ (t : List ℕ). (t, (told_with given log' lines).1)) (sym (append_assoc told.text part (told_with given log' lines).0));
 }
 
 -- all that is shown of the lines that were told, and the masks that they add
@@ -206,18 +312,49 @@ lines_put given first log log' from to a b c whole told fresh going kind ends pu
           (sym (ap (λ (t : List ℕ × List (List ℕ)). t.0) all));
     }
 
--- it was cut off
-pub lines_cut : (given : List (List ℕ)) (first log log' : LogTeller) (from to a b c : Stream) → ToldLines given first log from to a b → string_bytes first.shown ≡ []
-    → first.stop ≡ None → IsCutOff b c (string_bytes log.shown) → PutsLines from given first.masks log'.masks a c (Ok false)
-lines_cut given first log log' from to a b c told fresh going cut = record {
-  text = told.read.text;
-  left = to;
-  begins = told.read.begins;
+-- all that is told of the lines before and of the next ones
+next_told : (given : List (List ℕ)) (first log : LogTeller) (from to a b : Stream) (piece : List ℕ) → (told : ToldLines given first log from to a b)
+    → string_bytes first.shown ≡ [] → first.stop ≡ None
+    → told_by given [] first.masks None (lines_of (told.read.text ++ piece)) ≡ behind told.text (told_with given log (lines_of piece))
+next_told given first log from to a b piece told fresh going =
+    ap (λ (t : List ℕ). told_by given t first.masks None (lines_of (told.read.text ++ piece))) (sym fresh)
+    ∙ ap (λ (s : Option (List ℕ)). told_by given (string_bytes first.shown) first.masks s (lines_of (told.read.text ++ piece))) (sym going)
+    ∙ ap (told_with given first) (told.read.whole piece) ∙ told.is (lines_of piece)
+
+-- what is shown of the next ones was cut off
+pub next_cut : (given : List (List ℕ)) (first log log' : LogTeller) (from to to' a b c : Stream) (piece : List ℕ) → ToldLines given first log from to a b
+    → string_bytes first.shown ≡ [] → first.stop ≡ None → GetsLine to to' piece → IsUtf8 piece → PutsNext given log log' (lines_of piece) b c (Ok false)
+    → PutsLines from given first.masks log'.masks a c (Ok false)
+unfolding read_more
+next_cut given first log log' from to to' a b c piece told fresh going gets utf8 cut = record {
+  text = told.read.text ++ piece;
+  left = to';
+  begins = (read_more from to to' piece told.read gets utf8).begins;
   ends = λ no. absurd (cc);
   adds = λ no. absurd (cc);
-  puts = Puts-as a c (told.text ++ string_bytes log.shown) _ false (puts_more a b c told.text (string_bytes log.shown) false told.written cut)
-      (sym (ap (λ (t : List ℕ × List (List ℕ)). t.0) (all_told given first log from to a b told fresh going)));
+  puts = Puts-as a c (told.text ++ (told_with given log (lines_of piece)).0) _ false
+      (puts_more a b c told.text (told_with given log (lines_of piece)).0 false told.written cut)
+      (sym (ap (λ (t : List ℕ × List (List ℕ)). t.0) (next_told given first log from to a b piece told fresh going)));
 }
+
+-- there was no memory for more of it
+pub next_begun : (given : List (List ℕ)) (first log log' : LogTeller) (from to to' a b c : Stream) (piece : List ℕ) (how answer : Written) (e : AllocError)
+    → ToldLines given first log from to a b → string_bytes first.shown ≡ [] → first.stop ≡ None → GetsLine to to' piece → IsUtf8 piece
+    → PutsNext given log log' (lines_of piece) b c how → how ≡ Err e → IsErr answer → PutsLines from given first.masks log'.masks a c answer
+unfolding read_more
+next_begun given first log log' from to to' a b c piece how (Err e') e told fresh going gets utf8 put is failed =
+    let begun = subst (PutsNext given log log' (lines_of piece) b c) is put in
+    let next = (told_with given log (lines_of piece)).0 in
+    record {
+      text = told.read.text ++ piece;
+      left = to';
+      begins = (read_more from to to' piece told.read gets utf8).begins;
+      ends = λ no. absurd (cc);
+      adds = λ no. absurd (cc);
+      puts = part_after a b c told.text next [] _ told.written begun
+          (ap (λ (t : List ℕ × List (List ℕ)). t.0) (next_told given first log from to a b piece told fresh going) ∙ ap (λ (t : List ℕ). told.text ++ t) (sym (append-nil next)));
+    }
+next_begun given first log log' from to to' a b c piece how (Ok whole) e told fresh going gets utf8 put is failed = let no : false ≡ true = failed in absurd (cc)
 
 -- there was no memory for more
 lines_begun : (given : List (List ℕ)) (first log log' : LogTeller) (from to a b : Stream) (e : AllocError) → ToldLines given first log from to a b

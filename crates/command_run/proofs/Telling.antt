@@ -33,7 +33,7 @@ cut_after a b c before piece after whole written cut is =
     )
 
 -- a piece that is begun after others begins the whole
-part_after : (a b c : Stream) (before piece after whole : List ℕ) → IsWritten a b before → IsBegun b c piece → whole ≡ before ++ (piece ++ after)
+pub part_after : (a b c : Stream) (before piece after whole : List ℕ) → IsWritten a b before → IsBegun b c piece → whole ≡ before ++ (piece ++ after)
     → IsBegun a c whole
 part_after a b c before piece after whole written begun is =
     let (kept, failed) = begun in (

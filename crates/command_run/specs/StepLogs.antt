@@ -9,7 +9,7 @@ use Rattle.command_io.specs.declared.stream.SourceFault.{SourceFault}
 use Rattle.command_io.specs.declared.stream.SourceFault.TheVariants.{Failed, Memory}
 use Rattle.flow_model.specs.declared.event.Answer.TheVariants.{Exit, NotStarted, BadOutput}
 use Rattle.flow_commands.specs.CommandTexts.{commands}
-use Rattle.flow_commands.specs.Logs.{Log, lines_text, logs_text, mask_for}
+use Rattle.flow_commands.specs.Logs.{Log, lines_text, logs_text, mask_for, told_with}
 use Rattle.flow_commands.specs.Shown.{masks_added, shown}
 use Rattle.flow_commands.specs.declared.logs.LogTeller.{LogTeller}
 use Rattle.command_run.specs.declared.log_files.LogKind.{LogKind}
@@ -202,6 +202,17 @@ abbrev pub HandsOn : LogTeller → LogTeller → Stream → Stream → Bool → 
 HandsOn log log' out out' true = (part : List ℕ) × IsWritten out out' part × (string_bytes log.shown ≡ part ++ string_bytes log'.shown)
     × (log'.masks ≡ log.masks) × (log'.stop ≡ log.stop)
 HandsOn log log' out out' false = IsCutOff out out' (string_bytes log.shown)
+
+-- a text before what is told
+abbrev pub behind : List ℕ → List ℕ × List (List ℕ) → List ℕ × List (List ℕ)
+behind text told = (text ++ told.0, told.1)
+
+-- What is shown of the next lines of a log, after what is gathered, was written, or is still gathered; or a beginning of it was written.
+abbrev pub PutsNext : List (List ℕ) → LogTeller → LogTeller → List (List ℕ) → Stream → Stream → Written → Type 0
+PutsNext given log log' next out out' (Ok true) = (part : List ℕ) × IsWritten out out' part
+    × ((lines : List (List ℕ)) → told_with given log (next ++ lines) ≡ behind part (told_with given log' lines))
+PutsNext given log log' next out out' (Ok false) = IsCutOff out out' (told_with given log next).0
+PutsNext given log log' next out out' (Err memory) = IsBegun out out' (told_with given log next).0
 
 -- What is shown of the lines that are left of a log, all of them where all was written, was written so, by the masks that are given
 -- and those of the leg, which grow.

@@ -1,8 +1,10 @@
 //! What is shown of the logs of the steps that were started.
 
-ghost use Rattle.std.specs.Prelude.{◌≡◌, [], ◌==◌, ℕ, None, if◌then◌else◌, nat_eq, OnOk, string_bytes};
+ghost use Rattle.std.specs.Prelude.{◌≡◌, [], ◌∷◌, ◌==◌, ℕ, None, if◌then◌else◌, nat_eq, OnOk, string_bytes};
 ghost use Rattle.std.specs.HashMap.{get};
+ghost use Rattle.flow_commands.specs.Logs.{IsPlain};
 ghost use Rattle.status_table.specs.Runs.{IsLegal};
+ghost use Rattle.status_table.specs.Words.{lines_of};
 ghost use Rattle.step_host.specs.Program.{log_file as log_name};
 ghost use Rattle.command_run.specs.StepLogs as spec;
 
@@ -12,7 +14,7 @@ use crate::plan_masks::masks_of;
 use crate::started_steps::started_steps;
 use crate::workspace::Workspace;
 use command_io::stream::{LineSource, Sink};
-use flow_commands::{LogTeller, Masks};
+use flow_commands::{LogTeller, Masks, plain_line};
 use flow_model::{CheckedPlan, Entry};
 use std::alloc::{AllocError, Global};
 use std::collections::HashMap;
@@ -59,6 +61,55 @@ fn hand_on<O: Sink>(log: &mut LogTeller, out: &mut O) -> bool
     true
 }
 
+/// Writes what is shown of the next line of a log, which is no command, piece by piece, or gathers it, and answers whether it was
+/// written or is still gathered.
+///
+/// # Errors
+///
+/// There is no memory. A beginning may have been written.
+fn put_plain<O: Sink>(
+    given: &Masks,
+    line: &str,
+    log: &mut LogTeller,
+    out: &mut O,
+) -> Result<bool, AllocError>
+    requires { IsPlain line.now }
+    ensures { spec.PutsNext given.now log.old log.new (line.now ∷ [])
+        (O.seen out.old) (O.seen out.new) result }
+{
+    let mut rest = line;
+    while !rest.is_empty() {
+        rest = log.show_some(given, rest)?;
+        if !hand_on(log, out) {
+            return Ok(false);
+        }
+    }
+    log.end_line()?;
+    Ok(true)
+}
+
+/// Writes what is shown of the next lines of a log, those of a text, or gathers it, and answers whether it was written or is still
+/// gathered.
+///
+/// # Errors
+///
+/// There is no memory. A beginning may have been written.
+fn put_next<O: Sink>(
+    given: &Masks,
+    text: &str,
+    log: &mut LogTeller,
+    out: &mut O,
+) -> Result<bool, AllocError>
+    ensures { spec.PutsNext given.now log.old log.new (lines_of text.now)
+        (O.seen out.old) (O.seen out.new) result }
+{
+    if let Some(line) = plain_line(text) {
+        return put_plain(given, line, log, out);
+    }
+    log.add_lines(given, text)?;
+    Ok(hand_on(log, out))
+}
+
 /// Writes what is shown of the lines of a log, up to one that cannot be read or is no text, and answers whether it was written.
 ///
 /// # Errors
@@ -78,8 +129,7 @@ fn put_lines<S: LineSource, O: Sink>(
 {
     let mut line = Vec::new(alloc);
     while let Ok(text) = next_text(lines, &mut line)? {
-        log.add_lines(given, text)?;
-        if !hand_on(log, out) {
+        if !put_next(given, text, log, out)? {
             return Ok(false);
         }
     }
