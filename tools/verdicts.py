@@ -98,13 +98,18 @@ def tell_end(crate):
     print("".join(lines[-20:]), end="", flush=True)
 
 
+def order(rt, names):
+    """Returns all crates, and those among them that have these names or are below one that has; all if none is given. Lowest first."""
+    everything = sorted(rt.rtlib.crates_below(TOP), key=lambda it: len(it.below()))
+    asked = [it for it in everything if not names or it.name in names]
+    below = {it.name for crate in asked for it in [crate, *crate.below()]}
+    return everything, [it for it in everything if it.name in below]
+
+
 def main():
     rt = load()
     rt.rtlib.guarded()
-    everything = sorted(rt.rtlib.crates_below(TOP), key=lambda it: len(it.below()))
-    asked = [it for it in everything if not sys.argv[1:] or it.name in sys.argv[1:]]
-    names = {it.name for crate in asked for it in [crate, *crate.below()]}
-    crates = [it for it in everything if it.name in names]
+    everything, crates = order(rt, sys.argv[1:])
     # (no other `rt` works in these crates until this run ends)
     held = rt.rtlib.lock(crates)
     measured = figures()
