@@ -21,8 +21,11 @@ PASSED = re.compile("PATH|HOME|USER|LOGNAME|SHELL|LANG|LANGUAGE|LC_.*|TZ|TERM|TM
 NO_VARIABLES = ("event", "token", "repositoryUrl", "secret_source")  # of `github`
 MARK_LIKE = re.compile(r"[0-9a-f:-]{1,8}")
 PRELUDE = """\
-# Sourced by each bash (as BASH_ENV), by scripts for sh and by the programs of actions; all but the last line counts once a step.
-if [ "${{ACTRUN_STEP-}}" != "$GITHUB_OUTPUT" ]; then
+# Sourced by each bash (as BASH_ENV), by scripts for sh and by the programs of actions; all but the last line counts once a step,
+# and not for a bash that a step starts with a GITHUB_OUTPUT of its own.
+case ${{GITHUB_OUTPUT-}} in
+"${{ACTRUN_STEP-}}") ;;
+{play}/step-*.out)
   ACTRUN_STEP=$GITHUB_OUTPUT
   actrun_place=${{GITHUB_OUTPUT##*/step-}}
   actrun_place=${{actrun_place%.out}}
@@ -45,7 +48,8 @@ if [ "${{ACTRUN_STEP-}}" != "$GITHUB_OUTPUT" ]; then
   done <"$GITHUB_PATH"
   export ACTRUN_STEP PATH GITHUB_PATH GITHUB_STEP_SUMMARY RUNNER_WORKSPACE
   unset actrun_place actrun_line ACTRUN_DIRECTORY OLDPWD
-fi
+  ;;
+esac
 if [ -n "${{BASH_VERSION-}}" ] && [ -r "${{ACTRUN_BASH_ENV-}}" ]; then . "$ACTRUN_BASH_ENV"; fi
 """
 # a program `sudo` for the sandbox: there root executes the command, and anybody else reads what to do
@@ -74,8 +78,9 @@ def marker(secret_texts: Iterable[str]) -> str:
 def write_prelude(room: Room, mark: str) -> Path:
     """Writes the prelude of an execution."""
     path = room.play / "files" / "prelude.sh"
-    path.write_text(PRELUDE.format(mark=f"printf '%s\\n' \"{mark}:$actrun_place\"" if mark else ":", files=shlex.quote(str(path.parent)),
-                                   tree=shlex.quote(str(room.tree))), encoding="utf-8")
+    play, files, tree = (shlex.quote(str(place)) for place in (room.play, path.parent, room.tree))
+    path.write_text(PRELUDE.format(mark=f"printf '%s\\n' \"{mark}:$actrun_place\"" if mark else ":", play=play, files=files, tree=tree),
+                    encoding="utf-8")
     return path
 
 

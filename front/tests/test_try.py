@@ -152,6 +152,13 @@ class Steps(TryCase):
         self.assertIn("the working-directory nowhere is not there\n", done.stdout)
         self.assertNotIn("\nunseen", done.stdout)
 
+    def test_a_script_with_an_output_file_of_its_own(self) -> None:
+        self.write("sub/t.sh", 'echo "in ${PWD##*/}" >> "$GITHUB_OUTPUT"\n')
+        self.workflow("- run: cd sub; GITHUB_OUTPUT=/dev/stdout bash ./t.sh; env -u GITHUB_OUTPUT bash -u -c 'echo without one in ${PWD##*/}'")
+        done = self.attempt()
+        self.assert_status(done, 0)
+        self.assertIn("\nin sub\nwithout one in sub\n", done.stdout)
+
     def test_bash_env_of_the_workflow(self) -> None:
         self.write("own.sh", "echo own file of the workflow\n")
         self.workflow("- run: pwd\n  env:\n    BASH_ENV: ${{ github.workspace }}/own.sh")
