@@ -7,7 +7,7 @@ import shutil
 from dataclasses import dataclass, field
 from typing import Any, Dict, List, Tuple
 
-from .expressions import EvaluationError, has_expression
+from .expressions import EvaluationError, Rules, as_text, expression_of, grouped, has_expression, known_keys, rewrite_template
 from .lower_inline import inline_actions, inline_calls
 from .lower_matrix import lower_env, lower_strategy, lower_system
 from .lower_tree import (KnownContexts, Lowering, Setting, is_set, name_steps, part, rewrite_texts, set_default_variables, set_variable,
@@ -108,10 +108,19 @@ def lower_scripts(lowering: Lowering, job: Any, flow: Any) -> None:
         if step.get("if") is False:
             step.pop("shell", None)
         elif isinstance(step.get("run"), str):
+            see_own_variables(step)
             lower_script(lowering, step, [step, run_defaults(job), run_defaults(flow)])
         elif is_set(step.pop("timeout-minutes", None)):
             lowering.note(mark_of(step, "timeout-minutes"), "timeout-minutes of an action is not enforced")
     drop_default_shell(job)
+
+
+def see_own_variables(step: Any) -> None:
+    """Puts the variables of a step itself in place of `env.NAME` where they count, since these texts become variables beside them."""
+    rules = Rules({"env": known_keys({name: grouped(as_text(expression_of(value))) for name, value in part(step, "env").items()})})
+    for key in ("working-directory", "shell", "timeout-minutes"):
+        if has_expression(step.get(key)):
+            step[key] = rewrite_template(step[key], rules)
 
 
 def lower_script(lowering: Lowering, step: Any, places: List[Any]) -> None:

@@ -249,6 +249,32 @@ class Shells(LowerCase):
         self.assertIn("\n. p; z\n", job["steps"][2]["run"])
 
 
+class OwnVariables(LowerCase):
+    """Texts of a step that see its own env, and become variables."""
+
+    def test_names_of_the_step_are_written_out(self):
+        step = self.step("run: x, env: {SUB: src, DEEP: 'a/${{ env.OUTER }}', ON: true}, working-directory: 'w/${{ env.SUB }}-${{ env.OUTER }}-${{ env.DEEP }}', "
+                         "shell: \"${{ env['on'] }}\"")
+        self.assertEqual(step["working-directory"], "w/src-${{ env.OUTER }}-${{ (format('a/{0}', env.OUTER)) }}")
+        self.assertEqual(step["env"]["ACTRUN_SHELL"], "${{ (format('{0}', true)) }}")
+
+    def test_they_are_checked_as_if_they_were_written_there(self):
+        self.assertIn("timeout-minutes is soon, but has to be a number", self.refused(
+            "on: push\njobs: {a: {steps: [{run: x, env: {T: soon}, timeout-minutes: '${{ env.T }}'}]}}")[1])
+
+    @needs_program
+    def test_limit_and_shell(self):
+        self.job("""\
+    env: {S: none}
+    steps:
+      - run: echo "$- ${ACTRUN_MINUTES-}"
+        env: {S: 'bash -u {0}', T: 1}
+        shell: ${{ env.S }}
+        timeout-minutes: ${{ env.T }}
+""")
+        self.assertEqual(self.run_plan(), ["huB "])
+
+
 class Limits(LowerCase):
     @needs_program
     def test_limits(self):

@@ -100,6 +100,9 @@ class Steps(TryCase):
   run: pwd; bash -c 'echo $PATH' | tr ':' '\n' | grep -c /tools
 - working-directory: ${{ github.workspace }}/tools
   run: echo "absolute $PWD"
+- working-directory: ${{ env.SUB }}
+  env: {SUB: tools}
+  run: echo "by a variable ${PWD##*/}"
 """)
         self.commit()
         done = self.attempt()
@@ -109,6 +112,7 @@ class Steps(TryCase):
         self.assertIn("the word is blue\n", done.stdout)
         self.assertRegex(done.stdout, r"/play/tree/project/tools\n1\n")
         self.assertRegex(done.stdout, r"absolute /.*/play/tree/project/tools\n")
+        self.assertIn("by a variable tools\n", done.stdout)
         self.assertIn("\n# one\n", done.stdout)
         self.assertEqual(self.git("status", "--porcelain", folder=self.work() / "play" / "tree" / "project"), "")
 
