@@ -102,20 +102,22 @@ start_program() {
   [ -n "$record" ] || exec "${starter[@]}" "$program" "$@"
   watch_program "$@"
   status=$?
-  tell_part
+  tell_end
   [ -n "$stopped" ] || [ "$status" -le 128 ] || kill -s "$(kill -l "$status")" $$
   exit "$status"
 }
 
-# starts the program, shows its standard error as it comes, and has the front explain an error after it
+# Starts the program, shows its standard error as it comes, and has the front explain an error after it. A signal that ends this
+# script ends the program.
 explain_program() {
-  local room shows
+  local room shows bound=(setpriv --pdeathsig TERM)
+  "${bound[@]}" true 2>/dev/null || bound=()
   room=$(mktemp -d) || return
   # shellcheck disable=SC2064
   trap "rm -rf ${room@Q}" EXIT
   exec 3> >(exec tee -i -- "$room/err" >&2)
   shows=$!
-  if [ -n "$record" ]; then watch_program "$@" 2>&3 3>&-; else "${starter[@]}" "$program" "$@" 2>&3 3>&-; fi
+  if [ -n "$record" ]; then watch_program "$@" 2>&3 3>&-; else "${bound[@]}" "${starter[@]}" "$program" "$@" 2>&3 3>&-; fi
   status=$?
   exec 3>&-
   wait "$shows" 2>/dev/null
@@ -125,23 +127,24 @@ explain_program() {
       python3 "$top/front" explain "$status" "$room/err" "$@" >&2
       ;;
   esac
-  tell_part
+  tell_end
   exit "$status"
 }
 
-# Runs the program beside this script, which ends it and its steps at SIGINT or SIGTERM, since the program sees no signals. Then
-# `stopped` is the exit status.
+# Runs the program beside this script, which ends it and its steps at SIGINT, SIGTERM or SIGHUP, since the program sees no signals.
+# Then `stopped` is the exit status.
 watch_program() {
   local ended
-  stopped='' before=$(mark_part)
+  stopped='' before=$(mark_part) printed=() logs=()
   [ -e /dev/fd/0 ] || exec </dev/null
   "${starter[@]}" "$program" "$@" <&0 &
   child=$!
   trap 'stop_run 130' INT
   trap 'stop_run 143' TERM
+  trap 'stop_run 129' HUP
   wait "$child" 2>/dev/null
   ended=$?
-  trap - INT TERM
+  trap - INT TERM HUP
   return "${stopped:-$ended}"
 }
 
@@ -150,8 +153,14 @@ mark_part() {
   stat -c '%i %s %y' -- "$record.part" 2>/dev/null
 }
 
-# Where a signal ended the program, says what has the record so far, and why it is as it is, in at most 30 lines. A line that the
-# signal cut is left out.
+# Where a signal ended the program, says what has the record so far, why it is as it is, and what the running steps printed.
+tell_end() {
+  local log
+  tell_part
+  for log in "${logs[@]}"; do say "$log has what its step printed so far, unmasked"; done
+}
+
+# says what has the record so far, and why it is as it is, in at most 30 lines; a line that the signal cut is left out
 tell_part() {
   local part how reader=(cat)
   [ -n "$record" ] && [ "$status" -gt 128 ] && [ -s "$record.part" ] && [ "$(mark_part)" != "$before" ] || return 0
@@ -170,20 +179,50 @@ tell_part() {
 stop_run() {
   stopped=$1
   # (`timeout` sends its signal to this script and to its group: the second one at once is the same)
-  trap '' INT TERM
+  trap '' INT TERM HUP
   # (it is no job any more, so that bash does not say how it ended)
   disown "$child"
+  kill -STOP "$child"
+  open_printed
   kill -KILL "$child"
   end_session TERM
   sleep 0.1
   # shellcheck disable=SC2064
-  trap "end_session KILL; exit $1" INT TERM
+  trap "end_session KILL; keep_printed; exit $1" INT TERM HUP
   for _ in {1..30}; do
-    [ -n "$(in_session)" ] || return
+    [ -n "$(in_session)" ] || break
     sleep 0.1
   done
   end_session KILL
+  keep_printed
 } 2>/dev/null
+
+# Opens what running steps print into. These files lost their names `step-L-S.stdout` and `.stderr` at once, and end with the program;
+# `printed` gets descriptor and name of each.
+open_printed() {
+  local number name file
+  while IFS=' ' read -r -d '' number name; do
+    case "${printed[*]} " in *" $name "*) continue ;; esac
+    exec {file}<"/proc/$child/fd/$number" && printed+=("$file $name")
+  done < <(find "/proc/$child/fd" -lname '*/step-*.std??? (deleted)' -printf '%f %l\0')
+}
+
+# Makes the log of each running step, as the program does after a step: standard output, then standard error from a new line on.
+# Nothing in it is masked, so that only its owner can read it.
+keep_printed() {
+  local kind file log
+  for kind in out err; do
+    for file in "${printed[@]}"; do
+      log=${file#* }
+      log=${log%.std"$kind (deleted)"}.log
+      case $file in *.std"$kind (deleted)") ;; *) continue ;; esac
+      if [ "$kind" = out ]; then (umask 077 && rm -f -- "$log" && : >"$log"); fi
+      [ -z "$(tail -c 1 -- "$log")" ] || echo >>"$log"
+      cat <&"${file%% *}" >>"$log"
+      [ "$kind" = out ] || [ ! -s "$log" ] || logs+=("$log")
+    done
+  done
+}
 
 # sends a signal to what is in the program's session
 end_session() {

@@ -10,6 +10,7 @@ import concurrent.futures
 import contextlib
 import json
 import os
+import pty
 import random
 import re
 import shutil
@@ -511,7 +512,7 @@ class Signalled(Case):
         return subprocess.CompletedProcess(words, child.returncode, out, err)
 
     def test_a_signal_ends_the_steps_and_the_record_is_named(self) -> None:
-        for number, status in ((signal.SIGINT, 130), (signal.SIGTERM, 143)):
+        for number, status in ((signal.SIGINT, 130), (signal.SIGTERM, 143), (signal.SIGHUP, 129)):
             with self.subTest(number=number):
                 (self.work / "here").unlink(missing_ok=True)
                 answer = self.stop(number)
@@ -554,16 +555,49 @@ class Signalled(Case):
             time.sleep(0.02)
         self.assertEqual(sleeps(), {})
 
+    def test_what_a_running_step_printed_is_in_its_log(self) -> None:
+        """Also what it prints at its end."""
+        cry = "trap 'echo cry >&2; exit 9' TERM; "
+        steps = [{"run": "echo shown"}, {"run": f"{cry} printf out; echo err >&2; touch here; sleep 79.{UNIQUE} & wait"}]
+        log = self.work / "step-0-1.log"
+        for again in (False, True):
+            with self.subTest(again=again):
+                (self.work / "here").unlink(missing_ok=True)
+                answer = self.stop(signal.SIGTERM, steps, again)
+                self.assertEqual((answer.returncode, answer.stdout), (143, ""))
+                self.assertEqual((log.read_text(encoding="utf-8"), log.stat().st_mode & 0o777), ("out\nerr\ncry\n", 0o600))
+                self.assertEqual(answer.stderr.splitlines()[-1], f"actrun: {log} has what its step printed so far, unmasked")
+                self.assertEqual((self.work / "step-0-0.log").read_text(encoding="utf-8"), "shown\n")
+
     def test_a_signal_that_the_parent_ignores_is_ignored(self) -> None:
         plan = self.plan([{"run": "touch here; sleep 1; echo through"}])
-        code = "import os, signal, sys; signal.signal(signal.SIGINT, signal.SIG_IGN); os.execvp(sys.argv[1], sys.argv[1:])"
-        words = [sys.executable, "-c", code, *self.script(*self.words(plan))]
-        with subprocess.Popen(words, stdout=subprocess.PIPE, stderr=subprocess.PIPE, text=True, start_new_session=True) as child:
-            while not (self.work / "here").exists() and child.poll() is None:
+        for name in ("SIGINT", "SIGHUP"):
+            (self.work / "here").unlink(missing_ok=True)
+            code = f"import os, signal, sys; signal.signal(signal.{name}, signal.SIG_IGN); os.execvp(sys.argv[1], sys.argv[1:])"
+            words = [sys.executable, "-c", code, *self.script(*self.words(plan))]
+            with subprocess.Popen(words, stdout=subprocess.PIPE, stderr=subprocess.PIPE, text=True, start_new_session=True) as child:
+                while not (self.work / "here").exists() and child.poll() is None:
+                    time.sleep(0.02)
+                os.killpg(child.pid, signal.Signals[name])
+                out, err = child.communicate(timeout=30)
+            self.assertEqual((child.returncode, out, err), (0, "through\nrun 0 success\n", ""))
+
+    @unittest.skipUnless(shutil.which("setpriv"), "setpriv is missing")
+    def test_on_a_terminal_a_signal_ends_the_program_without_a_record(self) -> None:
+        words = self.script(*self.words(self.plan([{"run": f"echo $PPID > here; sleep 70.{UNIQUE}"}]), "--progress"))
+        reader, writer = pty.openpty()
+        for end in (reader, writer):
+            self.addCleanup(os.close, end)
+        for number in (signal.SIGTERM, signal.SIGHUP):
+            (self.work / "here").unlink(missing_ok=True)
+            with subprocess.Popen(words, stdin=subprocess.DEVNULL, stdout=writer, stderr=writer, start_new_session=True) as child:
+                while not ((self.work / "here").exists() and (self.work / "here").stat().st_size):
+                    time.sleep(0.02)
+                child.send_signal(number)
+            place, until = Path("/proc") / (self.work / "here").read_text(encoding="utf-8").strip(), time.monotonic() + 5
+            while place.exists() and time.monotonic() < until:
                 time.sleep(0.02)
-            os.killpg(child.pid, signal.SIGINT)
-            out, err = child.communicate(timeout=30)
-        self.assertEqual((child.returncode, out, err), (0, "through\nrun 0 success\n", ""))
+            self.assertEqual((child.returncode, place.exists()), (-number, False))
 
     def test_nothing_else_changes(self) -> None:
         self.plan([{"run": "cat; kill -INT $$; echo on; exit 4"}])
