@@ -25,7 +25,6 @@ from .tree import find_project, find_top, git, read_facts
 Future = concurrent.futures.Future
 Answers = Dict[str, Future]  # by the command that was asked
 FRONT = Path(__file__).resolve().parent.parent
-INTERRUPTED = 130
 PYTHON = "/usr/bin/python3" if os.access("/usr/bin/python3", os.X_OK) else sys.executable  # (the sandbox shows the system's)
 
 
@@ -37,7 +36,7 @@ def main(arguments: list[str]) -> int:
     except (Problem, StubError) as problem:
         text, status = str(problem), getattr(problem, "status", 2)
     except KeyboardInterrupt:
-        text, status = "stopped by Ctrl-C", INTERRUPTED
+        text, status = "stopped by Ctrl-C", 130
     except BrokenPipeError:
         text, status = "standard output was closed before the end", 3
     except OSError as error:
@@ -163,7 +162,7 @@ class Trial:
         status = execution.run(self.words(stubs, environment), environment, room.private / "plan")
         self.screen.status("")
         self.show_result({**self.results_of_part(), **dict(self.board.results)})
-        return INTERRUPTED if execution.interrupts else status
+        return 128 + execution.signals[0] if execution.signals else status
 
     def words(self, stubs: Stubs, environment: dict[str, str]) -> list[str]:
         """The words that execute the plan: in the sandbox, or with a line that says why not."""

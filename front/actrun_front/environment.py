@@ -30,7 +30,7 @@ case ${{GITHUB_OUTPUT-}} in
   actrun_place=${{GITHUB_OUTPUT##*/step-}}
   actrun_place=${{actrun_place%.out}}
   {mark}
-  if [ -e {files}/stopped ]; then echo 'stopped by Ctrl-C'; exit 130; fi
+  if [ -e {files}/stopped ]; then cat {files}/stopped; exit 130; fi
   GITHUB_PATH={files}/path-${{actrun_place%-*}}
   GITHUB_STEP_SUMMARY={files}/summary-$actrun_place
   : >>"$GITHUB_PATH" >>"$GITHUB_STEP_SUMMARY"

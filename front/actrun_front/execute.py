@@ -1,4 +1,4 @@
-"""Executes a plan by `actrun run`, hands its lines on as they come, and ends the steps at Ctrl-C."""
+"""Executes a plan by `actrun run`, hands its lines on as they come, and ends the steps at a signal."""
 from __future__ import annotations
 
 import os
@@ -7,13 +7,14 @@ import signal
 import subprocess
 import threading
 import time
-from dataclasses import dataclass
+from dataclasses import dataclass, field
 from pathlib import Path
 from typing import IO, Any, Callable, Iterable
 
 from . import Problem
 
 PATIENCE = 3.0
+SIGNALS = {signal.SIGINT: "Ctrl-C", signal.SIGTERM: "SIGTERM", signal.SIGHUP: "SIGHUP"}  # that end the steps, and what a person calls them
 PROGRESS = re.compile(r"leg (\d+) \(.*?\) step (\d+) of \d+ (?:started: .*|refused: (?P<refusal>.*)|(?P<end>exit (?P<code>\d+)|bad output|not started: .* \((?P<why>.*)\))"
                       r"(?: in (?P<seconds>[\d.]+) s)?, \d+ of \d+ steps)")
 
@@ -90,16 +91,17 @@ def each_line(stream: IO[bytes], take: Callable[[str], None]) -> None:
 
 @dataclass
 class Execution:
-    """One `actrun run`. The first Ctrl-C ends its steps, so that the program still writes what it knows; the second ends it."""
+    """One `actrun run`. The first signal ends its steps, so that the program still writes what it knows; the second ends it."""
 
-    stopped: Path                               # a file that keeps further steps from starting
-    board: Any                                  # takes lines of output and of progress, and says that Ctrl-C was seen
-    interrupts: int = 0
+    stopped: Path                               # a file that keeps further steps from starting, and says why
+    board: Any                                  # takes lines of output and of progress, and says that a signal was seen
+    signals: list[int] = field(default_factory=list)
     child: Any = None
 
     def run(self, words: list[str], environment: dict[str, str], plan: Path) -> int:
         """Executes the plan to its end; gives the status of `run`, or 3 where a signal ended it, also in the sandbox."""
-        kept = {number: signal.signal(number, self.interrupt) for number in (signal.SIGINT, signal.SIGTERM, signal.SIGHUP)}
+        # (what the caller ignores stays ignored, as by `nohup`)
+        kept = {number: signal.signal(number, self.interrupt) for number in SIGNALS if signal.getsignal(number) is not signal.SIG_IGN}
         try:
             with open(plan, "rb") as text:
                 self.child = subprocess.Popen(words, stdin=text, stdout=subprocess.PIPE, stderr=subprocess.PIPE, env=environment,
@@ -115,16 +117,16 @@ class Execution:
             for number, handler in kept.items():
                 signal.signal(number, handler)
 
-    def interrupt(self, *_: Any) -> None:
-        """What Ctrl-C does."""
-        self.interrupts += 1
+    def interrupt(self, number: int, _: Any) -> None:
+        """What a signal does."""
+        self.signals.append(number)
         if self.child is None:
-            raise KeyboardInterrupt
-        if self.interrupts > 1:
+            raise Problem(f"stopped by {SIGNALS[number]}", 128 + number)
+        if len(self.signals) > 1:
             self.end()
             return
-        self.stopped.touch()
-        for work in (self.board.stop, self.wind_down):  # (not here: this thread may be writing a line)
+        self.stopped.write_text(f"stopped by {SIGNALS[number]}\n", encoding="utf-8")
+        for work in (lambda: self.board.stop(SIGNALS[number]), self.wind_down):  # (not here: this thread may be writing a line)
             threading.Thread(target=work, daemon=True).start()
 
     def wind_down(self) -> None:

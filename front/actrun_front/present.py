@@ -119,7 +119,7 @@ class Board:
     screen: Screen
     legs: list[Leg]
     mark: str                                                     # of the lines that begin a step's output
-    stopped: bool = False                                         # by Ctrl-C
+    stopped: str = ""                                             # by what
     running: dict[int, int] = field(default_factory=dict)         # leg -> step
     refused: dict[int, str] = field(default_factory=dict)         # leg -> why the answer of its step is bad output
     ended: int = 0                                                # steps
@@ -132,10 +132,10 @@ class Board:
         part = self.legs[leg]
         return f"{part.name}: {part.filled(step_name(part.job['steps'][step]))}"
 
-    def stop(self) -> None:
-        """Says that Ctrl-C was seen."""
-        self.stopped = True
-        self.screen.tell("Ctrl-C: the steps are being ended; again ends the program at once")
+    def stop(self, cause: str) -> None:
+        """Says that a signal was seen."""
+        self.stopped = cause
+        self.screen.tell(f"{cause}: the steps are being ended; again ends the program at once")
 
     def progress(self, line: str) -> None:
         """Shows a line of standard error: a step started or ended, or an error. Where it cannot be shown, the program need not wait."""
@@ -155,7 +155,7 @@ class Board:
             else:
                 reason = self.refused.pop(leg, reason)
                 self.ended += 1
-                words = [self.title(leg, step), "stopped by Ctrl-C" if self.stopped and reason else reason, f"{seconds} s" if seconds else ""]
+                words = [self.title(leg, step), f"stopped by {self.stopped}" if self.stopped and reason else reason, f"{seconds} s" if seconds else ""]
                 self.screen.result(state, ", ".join(filter(None, words)), sys.stderr)
             self.screen.status("; ".join(f"{self.title(leg, step)} .." for leg, step in sorted(self.running.items())))
         except OSError:

@@ -382,9 +382,9 @@ class InSandbox(TryCase):
 
 @NEEDS_PROGRAM
 class Interrupted(TryCase):
-    """Ctrl-C."""
+    """Ctrl-C and other signals."""
 
-    def interrupt(self, *words: str, killed: bool = False) -> tuple[int, str, str]:
+    def interrupt(self, *words: str, killed: bool = False, number: int = signal.SIGINT) -> tuple[int, str, str]:
         """Status and outputs of a play that is interrupted in its second step, or whose program is killed there."""
         seconds = f"6{{}}.{os.getpid()}"  # (that no other program of this machine sleeps)
         self.workflow(f"- run: echo first\n- name: long\n  run: touch here; sleep {seconds.format(0)} & sleep {seconds.format(1)}\n"
@@ -398,7 +398,7 @@ class Interrupted(TryCase):
         if killed:
             os.kill(self.program(), signal.SIGKILL)
         else:
-            os.killpg(child.pid, signal.SIGINT)
+            os.killpg(child.pid, number)
         out, err = child.communicate(timeout=30)
         self.assertLess(time.time() - begun, 10)
         return child.returncode, out, err
@@ -425,9 +425,13 @@ class Interrupted(TryCase):
         self.assertRegex((private / "report.html").read_text(encoding="utf-8"), r'"times":\{"start":\d{13},')
         self.assertFalse((private / "record.part").exists())
 
-    def check(self, status: int, out: str, err: str) -> None:
+    def check(self, status: int, out: str, err: str, number: int = signal.SIGINT) -> None:
         """The play ended and said what it knows."""
-        self.assertEqual(status, 130, out + err)
+        self.assertEqual(status, 128 + number, out + err)
+        name = "Ctrl-C" if number == signal.SIGINT else signal.Signals(number).name
+        self.assertIn(f"{name}: the steps are being ended", err)
+        self.assertIn(f"long, stopped by {name}, ", err)
+        self.assertIn(f"\nstopped by {name}\n", out)
         self.assertIn("first\n", out)
         self.assertNotIn("\nafter\n", out)
         self.assertRegex(out, r"step 1 \(long\) failed at line \d+: the program ended with")
@@ -441,6 +445,11 @@ class Interrupted(TryCase):
 
     def test_without_sandbox(self) -> None:
         self.check(*self.interrupt("--no-sandbox"))
+
+    def test_other_signals(self) -> None:
+        for number in (signal.SIGTERM, signal.SIGHUP):
+            self.check(*self.interrupt("--no-sandbox", number=number), number)
+            shutil.rmtree(self.home / ".cache")
 
     @unittest.skipUnless(sandbox_works(), "bwrap is not installed or does not work here")
     def test_a_killed_program_in_the_sandbox(self) -> None:

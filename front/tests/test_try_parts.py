@@ -4,13 +4,14 @@ from __future__ import annotations
 import argparse
 import fcntl
 import os
+import signal
 import unittest
 from pathlib import Path
 
 from actrun_front import Problem, options
 from actrun_front.contexts import Play, contexts, excluded, payload, read_inputs, read_payload, triggers
 from actrun_front.environment import PASSED, marker, settle
-from actrun_front.execute import read_progress
+from actrun_front.execute import Execution, read_progress
 from actrun_front.planning import Flow, job_rows
 from actrun_front.present import legs_of, mask, one_line, placed, table
 from actrun_front.tree import Facts, Room, clean, find_project, find_top, make_room, parse_remote, read_facts, short_name, write_config
@@ -277,6 +278,18 @@ class Surroundings(unittest.TestCase):
         step = self.settled({"env": {}, "tolerate": False, "condition": None,
                              "work": {"kind": "run", "run": "${{ github.workspace }}", "dir": "d"}}, False)
         self.assertEqual((step["env"], step["work"]["run"]), ({"ACTRUN_DIRECTORY": "d"}, "${{ github.workspace }}"))
+
+
+class Signals(unittest.TestCase):
+    """Signals while a plan is executed."""
+
+    def test_what_the_caller_ignores_stays_ignored(self) -> None:
+        self.addCleanup(signal.signal, signal.SIGHUP, signal.signal(signal.SIGHUP, signal.SIG_IGN))
+        lines: list[str] = []
+        board = argparse.Namespace(progress=lines.append, output=lambda line: (os.kill(os.getpid(), signal.SIGHUP), lines.append(line)))
+        execution = Execution(Path("/nowhere/stopped"), board)
+        self.assertEqual(execution.run(["/bin/sh", "-c", "echo begun; sleep 0.2; echo through"], {}, Path("/dev/null")), 0)
+        self.assertEqual((lines, execution.signals), (["begun", "through"], []))
 
 
 class Shown(unittest.TestCase):
