@@ -16,7 +16,7 @@ from dataclasses import dataclass, field
 from typing import Any, Iterator
 
 from . import Problem
-from .dap_logs import LARGEST, Masks, shown_log
+from .dap_logs import Masks, shown_logs
 from .dap_record import PICTURES, Record
 
 MOST = 100_000  # entries of a page
@@ -184,34 +184,37 @@ def job_results(chart: str) -> dict[str, list]:
 
 def read_logs(record: Record, folder: pathlib.Path, masks: Masks, failed: set[str]) -> dict[str, str]:
     """The masked logs of the steps that were called, those of failed steps first; a sentence where a log is left out."""
+    called: dict[int, list[int]] = {}
+    for place, entry in enumerate(record.entries):
+        if entry["event"] == "end" and entry["answer"]["kind"] != "not-started":
+            called.setdefault(entry["leg"], []).append(record.begun(entry["leg"], place) - 1)
     found, used = {}, 0
-    called = [(entry["leg"], record.begun(entry["leg"], place) - 1)
-              for place, entry in enumerate(record.entries) if entry["event"] == "end" and entry["answer"]["kind"] != "not-started"]
-    known = set(called)
-    for leg, step in sorted(called, key=lambda it: (f"{it[0]}-{it[1]}" not in failed, it)):
-        name = f"{leg}-{step}"
-        unread = next((at for at in range(step) if (leg, at) in known and unknown(folder / f"step-{leg}-{at}.log")), None)
-        if not (folder / f"step-{name}.log").is_file():
-            found[name] = f"(there is no file step-{name}.log)"
-        elif unread is not None:
-            found[name] = f"(left out: step-{leg}-{unread}.log cannot be read, so what it masks is not known)"
-        elif used > LOGS:
-            found[name] = f"(left out: the page has {LOGS} characters of logs; see step-{name}.log)"
-        else:
-            found[name] = COLOURS.sub("", shown_log(folder, leg, step, masks)).translate(CONTROL)
-            used += len(found[name])
+    for wanted in (True, False):
+        for leg, steps in sorted(called.items()):
+            logs = leg_logs(folder, leg, steps, masks)
+            for step in (it for it in steps if (f"{leg}-{it}" in failed) is wanted):
+                name = f"{leg}-{step}"
+                if used > LOGS:
+                    found[name] = f"(left out: the page has {LOGS} characters of logs; see step-{name}.log)"
+                    continue
+                text, is_log = next((text, is_log) for at, text, is_log in logs if at == step)
+                found[name] = COLOURS.sub("", text).translate(CONTROL)
+                used += len(found[name]) if is_log else 0
     return found
 
 
-def unknown(path: pathlib.Path) -> bool:
-    """Whether the masks that a log adds cannot be known."""
-    try:
-        if path.stat().st_size > LARGEST:
-            return True
-        path.read_bytes().decode("utf-8")
-    except (OSError, UnicodeDecodeError):
-        return True
-    return False
+def leg_logs(folder: pathlib.Path, leg: int, steps: list[int], masks: Masks) -> Iterator[tuple[int, str, bool]]:
+    """Of each step of a leg what is shown of its log, or why none is, and whether it is a log. `steps` are those that were called."""
+    unread = None
+    for step, (text, known) in enumerate(shown_logs(folder, leg, masks)):
+        if not (folder / f"step-{leg}-{step}.log").is_file():
+            yield step, f"(there is no file step-{leg}-{step}.log)", False
+        elif unread is not None:
+            yield step, f"(left out: step-{leg}-{unread}.log cannot be read, so what it masks is not known)", False
+        else:
+            yield step, text, True
+        if unread is None and not known and step in steps:
+            unread = step
 
 
 def read_times(path: pathlib.Path, entries: int, ended: bool = False) -> dict[str, Any]:

@@ -2,6 +2,7 @@
 from __future__ import annotations
 
 import tempfile
+import time
 import unittest
 from pathlib import Path
 
@@ -91,6 +92,7 @@ class Logs(Room):
         self.assertEqual(masks.hide("xabcab, line two }"), "x******, *** }")
         self.assertEqual(masks.hide({"ab": ["abx", 1, None]}), {"***": ["***x", 1, None]})
         self.assertEqual(Masks([]).hide("ab"), "ab")
+        self.assertEqual(Masks(["abcdx", "cdef", "f"]).hide("abcdef abcdx"), "ab*** ***")
 
     def test_masks_of_a_plan_are_the_texts_of_its_secrets_and_the_token(self) -> None:
         runs = [{"roots": {"secrets": {"A": "one", "B": {"c": ["two", 3]}}, "github": {"token": "four", "ref": "five"}}}]
@@ -99,9 +101,22 @@ class Logs(Room):
     def test_commands_are_shown_as_their_messages(self) -> None:
         log = self.write("log", "plain key\n ::Error file=a,line=3::50%25 key\n::group::key\n::endgroup::\n::debug::x\n::other::x\n"
                                 "::add-mask::word\nword key\n::stop-commands::on\n::error::word\n ::on::\n::warning::a%0Ab\n::notice::")
-        text, masks = read_log(log, Masks(["key"]))
+        masks = Masks(["key"])
+        text, known = read_log(log, masks)
+        self.assertTrue(known)
         self.assertEqual(text, "plain ***\nerror: 50% ***\n> ***\n::other::x\n*** ***\n::error::***\nwarning: a\nb\nnotice: \n")
         self.assertEqual(masks.texts, {"key", "word"})
+
+    def test_thousands_of_masks(self) -> None:
+        """In two steps, a line after each; in one step they begin alike."""
+        for step in (0, 1):
+            words = [f"{number * 7919 % 65536:04x}" * (1 - step) + f"{number:030}" for number in range(2000)]
+            self.write(f"step-0-{step}.log", "".join(f"::add-mask::{word}\nnow {word}, {number:060}\n" for number, word in enumerate(words)))
+        began = time.process_time()
+        shown = [shown_log(self.room, 0, step, Masks(["a secret"])) for step in (0, 1)]
+        self.assertLess(time.process_time() - began, 2)
+        for text in shown:
+            self.assertEqual({line[:8] for line in text.splitlines()[2:]}, {"now ***,"})
 
     def test_what_an_earlier_step_masks_is_hidden_later(self) -> None:
         self.write("step-2-0.log", "::add-mask::word\n")

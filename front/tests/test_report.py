@@ -4,6 +4,7 @@ Without Chromium, its driver and selenium the browser tests are skipped, but not
 """
 from __future__ import annotations
 
+import itertools
 import json
 import os
 import random
@@ -14,11 +15,13 @@ import sys
 import tempfile
 import time
 import unittest
+from argparse import Namespace
 from pathlib import Path
 from typing import Any
 from unittest import mock
 
-from actrun_front import Problem, report, report_data
+from actrun_front import Problem, dap_logs, report, report_data
+from actrun_front.dap_logs import Masks
 
 from .dap_case import EXAMPLES, NEEDS_PROGRAM, PROGRAM, TOP
 
@@ -133,6 +136,23 @@ class ReportCase(unittest.TestCase):
         target = Path(tempfile.mkdtemp(dir=self.room)) / "page.html"
         report.write(target, report.page(PROGRAM, record, **{"seconds": 600, **options}))
         return target
+
+
+class Logs(unittest.TestCase):
+    def test_each_log_is_read_twice_at_most_and_none_for_a_full_page(self) -> None:
+        """Of failed steps, and of the others; the masks of earlier steps count."""
+        entries = [{"event": "end", "leg": leg, "answer": {"kind": "exited"}} for leg in (0, 1) for _ in range(9)]
+        record = Namespace(entries=entries, begun=lambda leg, place: place - 9 * leg + 1)
+        with tempfile.TemporaryDirectory() as room, mock.patch("actrun_front.dap_logs.read_log", wraps=dap_logs.read_log) as read:
+            for leg, step in itertools.product((0, 1), range(9)):
+                Path(room, f"step-{leg}-{step}.log").write_text(f"::add-mask::{step}{step}\n{leg} {step}{step} 00\n", encoding="utf-8")
+            found = report_data.read_logs(record, Path(room), Masks(), {"0-8", "1-2"})
+            self.assertEqual((list(found)[:3], set(found.values())), (["0-8", "1-2", "0-0"], {"0 *** ***\n", "1 *** ***\n"}))
+            self.assertLessEqual(read.call_count, 2 * len(entries))
+            read.reset_mock()
+            with mock.patch("actrun_front.report_data.LOGS", 5):
+                found = report_data.read_logs(record, Path(room), Masks(), {"0-1"})
+            self.assertEqual((found["0-1"], found["1-8"][:9], read.call_count), ("0 *** ***\n", "(left out", 2))
 
 
 @NEEDS_PROGRAM
