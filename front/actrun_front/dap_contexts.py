@@ -5,8 +5,9 @@ from dataclasses import dataclass
 from typing import Any
 
 from .dap_logs import Masks
-from .dap_record import Board, Record, as_text
+from .dap_record import Board, Record
 from .expressions import EvaluationError, Program, Rules, has_expression, references, rewrite, template_expression
+from .present import as_text
 
 OF_LEG, OF_STEP = {"needs", "strategy", "matrix"}, {"job", "steps", "env"}
 STATUS = {"success": "success", "failure": "failure", "cancelled": "cancelled"}

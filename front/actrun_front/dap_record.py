@@ -11,7 +11,7 @@ from dataclasses import dataclass, field
 from typing import Any, Sequence
 
 from . import Problem
-from .present import Leg, legs_of
+from .present import Leg, as_text, legs_of
 
 PLACE = re.compile(r"place ([0-9]+) of ([0-9]+)")
 MISHAP = re.compile(r" (was skipped|was cancelled|ended cancelled|ended failure|failed) at line ([0-9]+)(: .*)?")
@@ -233,10 +233,3 @@ class Record:
                 displaced = kind != "job" and line.endswith(" took its place in the group")
                 found.append(Mishap(int(fact[2]) - 1, "displaced" if displaced else FILTER_OF[fact[1]], line, (kind, number)))
         return found
-
-
-def as_text(value: Any) -> str:
-    """A value of an expression as a text, as programs get it."""
-    if value is None or isinstance(value, bool):
-        return {None: "", False: "false", True: "true"}[value]
-    return "Array" if isinstance(value, list) else "Object" if isinstance(value, dict) else str(value)

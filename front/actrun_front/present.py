@@ -35,12 +35,19 @@ class Leg:
     def name(self) -> str:
         """The job's name, with the values of the matrix behind it."""
         name = self.filled(self.job["name"])
-        words = [str(value) if isinstance(value, (str, int)) else "..." for value in self.values.values()]
+        words = [as_text(value) for value in self.values.values()]
         return one_line(name if name != self.job["name"] and "${{" not in name or not words else f"{name} ({', '.join(words)})")
 
     def filled(self, text: str) -> str:
         """A name with the values of the matrix that it mentions."""
-        return MATRIX.sub(lambda found: str(self.values.get(found[1], found[0])), text)
+        return MATRIX.sub(lambda found: as_text(self.values.get(found[1], found[0])), text)
+
+
+def as_text(value: Any) -> str:
+    """A value of an expression as a text, as programs get it."""
+    if value is None or isinstance(value, bool):
+        return {None: "", False: "false", True: "true"}[value]
+    return "Array" if isinstance(value, list) else "Object" if isinstance(value, dict) else str(value)
 
 
 def legs_of(plan: dict[str, Any]) -> list[Leg]:
@@ -235,8 +242,13 @@ def placed(lines: Iterable[str], legs: list[Leg], place: Callable[[int, str, int
 
 def summaries(folder: Path, secrets: Iterable[str], board: Board) -> Iterable[tuple[str, str]]:
     """Title and text of each summary that a step wrote, in the order of legs and steps."""
-    found = {tuple(map(int, re.findall(r"\d+", path.name))): path for path in folder.glob("summary*")
-             if path.is_file() and not path.is_symlink() and path.stat().st_size}
+    found = {}
+    for path in folder.glob("summary*"):
+        name = re.fullmatch(r"summary(?:-([0-9]+)-([0-9]+))?", path.name)
+        place = tuple(map(int, filter(None, name.groups()))) if name else ()
+        is_of_step = not place or place[0] < len(board.legs) and place[1] < len(board.legs[place[0]].job["steps"])
+        if name and is_of_step and path.is_file() and not path.is_symlink() and path.stat().st_size:
+            found[place] = path
     for place, path in sorted(found.items()):
         text = mask(path.read_text(encoding="utf-8", errors="replace").rstrip("\n"), secrets)
         yield (f"summary of {board.title(*place)}" if place else "summary"), text

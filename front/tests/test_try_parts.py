@@ -5,6 +5,7 @@ import argparse
 import fcntl
 import os
 import signal
+import tempfile
 import unittest
 from pathlib import Path
 
@@ -13,7 +14,7 @@ from actrun_front.contexts import Play, contexts, excluded, payload, read_inputs
 from actrun_front.environment import PASSED, marker, settle
 from actrun_front.execute import Execution, read_progress
 from actrun_front.planning import Flow, job_rows
-from actrun_front.present import legs_of, mask, one_line, placed, table
+from actrun_front.present import Board, Screen, legs_of, mask, one_line, placed, summaries, table
 from actrun_front.tree import Facts, Room, clean, find_project, find_top, make_room, parse_remote, read_facts, short_name, write_config
 from actrun_front.yaml_reader import read_document
 from .try_case import TryCase
@@ -317,6 +318,14 @@ class Shown(unittest.TestCase):
     def test_table(self) -> None:
         self.assertEqual(list(table([("A", "Long", "C"), ("word", "b", "")])), ["A     Long  C", "word  b"])
 
+    def test_only_files_of_steps_are_summaries(self) -> None:
+        legs = legs_of({"runs": [{"jobs": [{"name": "a", "legs": [{}], "steps": [{"name": "s", "work": {}}]}]}]})
+        with tempfile.TemporaryDirectory() as room:
+            for name in ("summary", "summary-0-0", "summary-0-0.1", "summary-0-0-0", "summary-0-1", "summary-1-0", "summary-0", "summary-x-0"):
+                Path(room, name).write_text(f"{name}\n", encoding="utf-8")
+            found = list(summaries(Path(room), [], Board(Screen(), legs, "")))
+        self.assertEqual(found, [("summary", "summary"), ("summary of a: s", "summary-0-0")])
+
     def test_jobs_by_stages(self) -> None:
         text = ("name: CI\non: [push]\njobs:\n  last: {needs: [one, two]}\n  one: {name: First}\n  two: {needs: one}\n"
                 "  four: {needs: [last, three]}\n  three: {needs: one}\n")
@@ -331,6 +340,10 @@ class Shown(unittest.TestCase):
         self.assertEqual([leg.name for leg in legs], ["Tests (1)", "Tests"])
         named = legs_of({"runs": [{"jobs": [{**job, "name": name, "legs": [{"v": 1}]} for name in ("On ${{ matrix.v }}", "${{ matrix.w }}")]}]})
         self.assertEqual([leg.name for leg in named], ["On 1", "${{ matrix.w }} (1)"])
+        values = [True, None, {"a": 1}, [1], 7, "x"]
+        named = legs_of({"runs": [{"jobs": [{**job, "name": name, "legs": [{"v": it} for it in values]} for name in ("Tests", "On ${{ matrix.v }}")]}]})
+        self.assertEqual([leg.name for leg in named], [form.format(text).strip() for form in ("Tests ({})", "On {}")
+                                                       for text in ("true", "", "Object", "Array", "7", "x")])
         lines = ["run 1 (CI) failed at line 3", "  job 1 (Tests) failed", "    leg 1 (Tests) ended failure at line 2",
                  "      step 0 (x) failed at line 1: the program ended with 1", "job 0 (Tests) (above)"]
         found = list(placed(lines, legs, lambda run, name, step: f"{run} {name} {step}"))
