@@ -17,12 +17,14 @@ from .tree import GITHUB, Facts, Room, git
 
 GREATEST = 9007199254740991
 NO_COMMIT = "0" * 40
+COMMIT = re.compile("[0-9a-f]{40,64}")
 MOST_COMMITS = 20
 NAMES = {"Darwin": "macOS", "x86_64": "X64", "AMD64": "X64", "aarch64": "ARM64", "arm64": "ARM64", "i386": "X86", "i686": "X86"}
+TYPES = dict.fromkeys(("pull_request", "pull_request_target"), ["opened", "synchronize", "reopened"])  # where a workflow names none
 # of `github.ref`: events of the current branch or tag, and those of the payload; all others are of the default branch
 OF_CURRENT = ("workflow_call", "create", "merge_group", "repository_dispatch", "release")
 OF_PAYLOAD = ("push", "workflow_dispatch")
-WILD = {"**": ".*", "*": "[^/]*", "?": "?", "+": "+"}
+WILD = {"**/": "(.*/)?", "**": ".*", "*": "[^/]*", "?": "?", "+": "+"}
 
 
 @dataclass(frozen=True)
@@ -216,23 +218,51 @@ def pull_request(facts: Facts, repository: dict[str, Any], user: dict[str, Any])
     return {"action": "opened", "number": 1, "pull_request": request}
 
 
-def excluded(event: str, trigger: Any, github: dict[str, Any]) -> str | None:
+def excluded(play: Play, trigger: Any, github: dict[str, Any]) -> str | None:
     """The filter by which GitHub would not start the workflow; the program passes over filters."""
-    if not isinstance(trigger, dict) or not (event == "push" or event.startswith("pull_request")):
+    event, filters = play.event, trigger if isinstance(trigger, dict) else {}
+    action, types = text_at(github["event"], "action"), filters.get("types") or TYPES.get(event)
+    if action and types and action not in texts(types):
+        return f"types: {types}"
+    if not (event == "push" or event.startswith("pull_request")):
         return None
-    kind, other = ("tags", "branches") if event == "push" and github["ref_type"] == "tag" else ("branches", "tags")
+    of_tag = event == "push" and github["ref_type"] == "tag"
+    kind, other = ("tags", "branches") if of_tag else ("branches", "tags")
     name = github["ref_name"] if event == "push" else github["base_ref"]
-    if event == "push" and other in trigger and not {kind, f"{kind}-ignore"} & set(trigger):
-        return f"{other}: {trigger[other]}"
-    return next((f"{key}: {trigger[key]}" for key, starts in ((kind, True), (f"{kind}-ignore", False))
-                 if key in trigger and name and matches(trigger[key], name) is not starts), None)
+    if event == "push" and other in filters and not {kind, f"{kind}-ignore"} & set(filters):
+        return f"{other}: {filters[other]}"
+    found = next((f"{key}: {filters[key]}" for key, starts in ((kind, True), (f"{kind}-ignore", False))
+                  if key in filters and name and matches(filters[key], name) is not starts), None)
+    return found if found or of_tag else excluded_paths(play, filters, github)
+
+
+def excluded_paths(play: Play, filters: dict[str, Any], github: dict[str, Any]) -> str | None:
+    """The filter of paths that no changed file passes; none where it is not known which files changed."""
+    key = next((key for key in ("paths", "paths-ignore") if key in filters), None)
+    changed = changed_files(play.facts.top, play.event, github["event"]) if key and play.facts.repository else []
+    return f"{key}: {filters[key]}" if changed and not any(matches(filters[key], name) is (key == "paths") for name in changed) else None
+
+
+def changed_files(top: Path, event: str, data: dict[str, Any]) -> list[str]:
+    """The files that an event changes by its payload, with those that are not committed; none where git does not know. A push is compared
+    with the commit before it, a request with the commit where it left its base."""
+    ends = [text_at(data, "before"), text_at(data, "after")] if event == "push" else \
+        [text_at(data, "pull_request", end, "sha") for end in ("base", "head")]
+    if not all(COMMIT.fullmatch(end) for end in ends):
+        return []
+    if not ends[0].strip("0"):
+        ends[0] = git(top, "hash-object", "-t", "tree", "/dev/null") or ""
+    compare = ("diff", "--name-only", "--no-renames", "--relative", "-z")
+    pushed = git(top, *compare, *(ends if event == "push" else ["...".join(ends)]), "--")
+    others = [git(top, *compare, "HEAD", "--"), git(top, "ls-files", "-o", "--exclude-standard", "-z")]
+    return [] if pushed is None else sorted({name for names in (pushed, *others) for name in (names or "").split("\0") if name})
 
 
 def matches(globs: Any, name: str) -> bool:
     """Whether the last pattern that fits the name is one without `!`. A pattern has `*`, `**`, `?` and `+` after a character, and `[..]`."""
     result = False
     for glob in map(str, globs if isinstance(globs, list) else [globs]):
-        parts = re.findall(r"\*\*|\\.|\[[^\]]*\]|.", glob[glob.startswith("!"):], re.DOTALL)
+        parts = re.findall(r"\*\*/|\*\*|\\.|\[[^\]]*\]|.", glob[glob.startswith("!"):], re.DOTALL)
         try:
             if re.fullmatch("".join(WILD.get(part) or (part if len(part) > 1 else re.escape(part)) for part in parts), name):
                 result = not glob.startswith("!")

@@ -111,7 +111,7 @@ def lower_flow(flow: Flow, number: int, play: Play, screen: Screen) -> None:
         raise Problem(f"{flow.name}:{refused.line}: {refused.text}") from None
     for note in sorted({*flow.document.notes, *flow.lowered.notes}, key=lambda note: note.line):
         screen.tell(f"note: {flow.name}:{note.line}: {note.text}", "note")
-    filtered = excluded(play.event, flow.events.get(play.event), flow.contexts["github"])
+    filtered = excluded(play, flow.events.get(play.event), flow.contexts["github"])
     if filtered:
         screen.tell(f"note: {flow.name}: on GitHub its filter would keep it from this event ({filtered})", "note")
     value = flow.lowered.value

@@ -2,6 +2,7 @@
 from __future__ import annotations
 
 import argparse
+import dataclasses
 import fcntl
 import os
 import signal
@@ -10,7 +11,7 @@ import unittest
 from pathlib import Path
 
 from actrun_front import Problem, options
-from actrun_front.contexts import Play, contexts, excluded, payload, read_inputs, read_payload, triggers
+from actrun_front.contexts import Play, contexts, excluded, matches, payload, read_inputs, read_payload, triggers
 from actrun_front.environment import PASSED, marker, settle
 from actrun_front.execute import Execution, read_progress
 from actrun_front.planning import Flow, job_rows
@@ -137,6 +138,32 @@ class Contexts(TryCase):
         self.assertEqual((request["title"], request["body"], request["draft"]), ("second", "with a body", False))
         self.assertEqual((request["head"]["ref"], request["base"]["ref"]), ("feature", "main"))
 
+    def keeps(self, event: str, data: dict | None = None, **filters: list[str]) -> bool:
+        """Whether a filter keeps a workflow from an event."""
+        play = self.play(event, data)
+        return excluded(play, filters, contexts(play, "ci.yml", {"on": {event: filters}})["github"]) is not None
+
+    def test_filters_of_paths(self) -> None:
+        self.assertFalse(self.keeps("push", paths=["oth*"]))
+        self.assertTrue(self.keeps("push", paths=["src/**"]))
+        self.assertTrue(self.keeps("push", **{"paths-ignore": ["other", "file"]}))
+        self.assertFalse(self.keeps("push", **{"paths-ignore": ["file"]}))
+        self.assertFalse(self.keeps("push", {"before": "0" * 40, "after": self.git("rev-parse", "HEAD")}, paths=["file"]))
+        self.assertFalse(self.keeps("push", {"before": "--output=x", "after": "5" * 40}, paths=["src/**"]))  # (not known)
+        self.git("checkout", "-q", "-b", "feature")
+        self.write("src/new", "1")  # (not committed)
+        self.assertFalse(self.keeps("push", paths=["src/**"]))
+        self.assertFalse(self.keeps("pull_request", paths=["src/**"]))
+        self.assertTrue(self.keeps("pull_request", paths=["file"]))
+        self.git("add", "-A")
+        self.git("commit", "-q", "-m", "third")
+        self.git("checkout", "-q", "main")
+        self.write("later", "")
+        self.git("add", "-A")
+        self.git("commit", "-q", "-m", "on main")
+        self.git("checkout", "-q", "feature")
+        self.assertEqual([self.keeps("pull_request", paths=[name]) for name in ("src/new", "later")], [False, True])
+
     def test_inputs_of_a_file(self) -> None:
         trigger = {"on": {"workflow_dispatch": {"inputs": {"dry": {"type": "boolean"}, "word": None, "count": {"type": "number"}}}}}
         play = self.play("workflow_dispatch", {"inputs": {"dry": True, "word": "file", "count": "4"}}, inputs={"word": "line"})
@@ -215,9 +242,11 @@ class Payloads(TryCase):
 class Filters(unittest.TestCase):
     """Filters of events, as GitHub's cheat sheet of patterns has them."""
 
+    PUSH = Play("push", Facts(Path("/w")), argparse.Namespace(), None, Room(Path("/w"), "hello", None), 1, 2)
+
     def check(self, trigger: dict, name: str, starts: bool, kind: str = "branch") -> None:
         """Whether a push starts a workflow."""
-        found = excluded("push", trigger, {"ref_name": name, "ref_type": kind, "base_ref": ""})
+        found = excluded(self.PUSH, trigger, {"ref_name": name, "ref_type": kind, "base_ref": "", "event": {}})
         self.assertEqual(found is None, starts, (trigger, name, found))
 
     def test_patterns(self) -> None:
@@ -234,8 +263,28 @@ class Filters(unittest.TestCase):
         self.check({"tags": ["v*"]}, "main", False)
         self.check({"tags": ["v*"]}, "v1", True, "tag")
         self.check({"branches": ["main"]}, "v1", False, "tag")
-        self.check({"paths": ["x"]}, "main", True)
-        self.assertIsNone(excluded("push", None, {}))
+        self.check({"paths": ["x"]}, "main", True)  # (no repository says which files changed)
+        self.check(None, "main", True)
+
+    def test_patterns_of_paths(self) -> None:
+        for glob, names, others in (
+                ("*", "README.md server.rb", "docs/a.md"), ("*.jsx?", "page.js page.jsx", "a/page.js"), ("**", "a a/b/c", ""),
+                ("**.js", "index.js js/index.js src/js/app.js", "a.jsx"), ("docs/*", "docs/README.md docs/file.txt", "docs/a/b.md"),
+                ("docs/**", "docs/README.md docs/mona/octocat.txt", "doc/a"), ("docs/**/*.md", "docs/README.md docs/a/markdown/file.md", "docs/a.txt"),
+                ("**/docs/**", "docs/hello.md dir/docs/my-file.txt space/docs/plan/space.doc", "docs.md"),
+                ("**/README.md", "README.md js/README.md", "xREADME.md"), ("**/*src/**", "a/src/app.js my-src/code/js/app.js", "a/src.js"),
+                ("**/*-post.md", "my-post.md path/their-post.md", "post.md"), ("**/migrate-*.sql", "migrate-10909.sql db/sept/migrate-v1.sql", "migrate.sql")):
+            self.assertEqual([matches([glob], name) for name in names.split()], [True] * len(names.split()), glob)
+            self.assertEqual([matches([glob], name) for name in others.split()], [False] * len(others.split()), glob)
+        self.assertEqual([matches(["*.md", "!README.md", "README*"], name) for name in ("hello.md", "README.md", "docs/a.md")], [True, True, False])
+
+    def test_types(self) -> None:
+        for event, trigger, action, starts in (("pull_request", None, "opened", True), ("pull_request", {}, "labeled", False),
+                                               ("pull_request", {"types": ["labeled"]}, "labeled", True), ("issues", {"types": "opened"}, "closed", False),
+                                               ("issues", None, "closed", True), ("release", {"types": ["published"]}, "", True)):
+            play = dataclasses.replace(self.PUSH, event=event)
+            found = excluded(play, trigger, {"ref_name": "main", "ref_type": "branch", "base_ref": "main", "event": {"action": action}})
+            self.assertEqual(found is None, starts, (event, trigger, action, found))
 
     def test_triggers(self) -> None:
         for value in ({"on": "push"}, {"on": ["push"]}, {"on": {"push": None}}, {"true": {"push": None}}):
