@@ -11,7 +11,7 @@ from pathlib import Path
 from typing import Any, Iterable, Mapping
 
 from .contexts import text_of
-from .expressions import Access, Rules, has_expression, literal, rewrite, split
+from .expressions import TEXT, Access, Rules, has_expression, literal, rewrite, split, unquoted
 from .tree import Room, cache_root
 
 # the first words of a script for sh, which has no BASH_ENV
@@ -34,6 +34,7 @@ case ${{GITHUB_OUTPUT-}} in
   GITHUB_PATH={files}/path-${{actrun_place%-*}}
   GITHUB_STEP_SUMMARY={files}/summary-$actrun_place
   : >>"$GITHUB_PATH" >>"$GITHUB_STEP_SUMMARY"
+  [ -d "$RUNNER_TEMP" ] || mkdir -p "$RUNNER_TEMP"
   RUNNER_WORKSPACE=${{GITHUB_WORKSPACE%/*}}
   if [ ! -d "$GITHUB_WORKSPACE" ]; then
     mkdir -p "$RUNNER_WORKSPACE" && cp -a --reflink=auto {tree} "$GITHUB_WORKSPACE" ||
@@ -86,7 +87,7 @@ def write_prelude(room: Room, mark: str) -> Path:
 
 def settle(plan: dict[str, Any], room: Room, own_trees: bool) -> None:
     """Prepares a plan for the prelude: it goes to the working-directory of a step, and sources what the workflow names BASH_ENV.
-    With `own_trees` each leg has a tree, and the texts that see `strategy` name that one."""
+    Each leg has a folder for RUNNER_TEMP, with `own_trees` a tree, and the texts that see `strategy` name these."""
     for number, run in enumerate(plan["runs"]):
         if number:  # the variables of all steps are those of the first run
             run["env"] = {**{f"GITHUB_{name.upper()}": f"${{{{ github.{name} }}}}" for name in ("workflow", "workflow_ref", "event_path")},
@@ -99,34 +100,43 @@ def settle(plan: dict[str, Any], room: Room, own_trees: bool) -> None:
             if step["work"].get("dir"):
                 step["env"]["ACTRUN_DIRECTORY"] = step["work"]["dir"]
                 step["work"]["dir"] = None
-        for job in run["jobs"] if own_trees else ():
-            job["env"] = {"GITHUB_WORKSPACE": "${{ github.workspace }}", **job["env"]}
-            with_own_tree(job, room)
+        for job in run["jobs"]:
+            trees = {"GITHUB_WORKSPACE": "${{ github.workspace }}"} if own_trees else {}
+            job["env"] = {"RUNNER_TEMP": str(room.play / "temp"), **trees, **job["env"]}
+            with_own_folders(job, room, own_trees)
 
 
-def with_own_tree(job: dict[str, Any], room: Room) -> None:
-    """Puts the tree of the leg in place of `github.workspace`, and of the path of the copy, in a job's texts."""
-    common, start = str(room.tree.parent), f"{room.play}/legs/{job['number']}-"
-    quoted = re.compile("'" + re.escape(common.replace("'", "''")) + "((?:[^']|'')*)'")
+def with_own_folders(job: dict[str, Any], room: Room, own_trees: bool) -> None:
+    """Puts folders of the leg in place of `runner.temp`, and with `own_trees` of `github.workspace` and the path of the copy, in a job's texts."""
+    folders = {str(room.play / "temp"): f"{room.play}/temp/{job['number']}-"}
+    if own_trees:
+        folders[str(room.tree.parent)] = f"{room.play}/legs/{job['number']}-"
 
     def workspace(access: Access) -> tuple[str, int] | None:
         return (literal(str(room.tree)), 1) if [key.lower() for key in access.keys[:1]] == ["workspace"] else None
-    rules = Rules({"github": workspace})
+    rules = Rules({"github": workspace} if own_trees else {})
 
-    def place(rest: str) -> str:
-        before, after = (text.replace("{", "{{").replace("}", "}}") for text in (start.replace("'", "''"), rest))
-        return f"format('{before}{{0}}{after}', strategy.job-index)"
+    def shape(text: str) -> str:
+        return text.replace("'", "''").replace("{", "{{").replace("}", "}}")
+
+    def place(text: str) -> str:
+        found = shape(text)
+        for common, new in folders.items():
+            found = found.replace(shape(common), shape(new) + "{0}")
+        return f"format('{found}', strategy.job-index)" if found != shape(text) else literal(text)
 
     def expression(text: str) -> str:
-        return quoted.sub(lambda found: place(found[1]), rewrite(text, rules))
+        return re.sub(TEXT, lambda it: place(unquoted(it[0])), rewrite(text, rules))
+
+    def plain(text: str) -> str:
+        return re.sub("|".join(map(re.escape, folders)), lambda it: f"${{{{ {place(it[0])} }}}}", text)
 
     def own(value: Any) -> Any:
         if isinstance(value, dict):
             return {name: own(text) for name, text in value.items()}
-        if not isinstance(value, str) or not ("workspace" in value.lower() or common in value):
+        if not isinstance(value, str):
             return value
-        return "".join(f"${{{{{expression(text)}}}}}" if inside else text.replace(common, f"${{{{ {place('')} }}}}")
-                       for inside, text in split(value))
+        return "".join(f"${{{{{expression(text)}}}}}" if inside else plain(text) for inside, text in split(value))
     job["env"], job["outputs"] = own(job["env"]), own(job["outputs"])
     for step in job["steps"]:
         condition = step["condition"]

@@ -123,7 +123,7 @@ def restore_step(key: str, paths: list[str]) -> bool:
 
 def after(record: str) -> None:
     """Saves the caches that legs asked for which ended with success by the record."""
-    requests, board = sorted(step.folder("RUNNER_TEMP").glob("cache-request-*.json")), ""
+    requests, board = sorted(step.folder("RUNNER_TEMP").rglob("cache-request-*.json")), ""  # (each leg has a folder there)
     if requests:
         with open(record, "rb") as text:
             board = subprocess.run([os.environ["ACTRUN_PROGRAM"], "table"], stdin=text, capture_output=True, text=True, check=False).stdout

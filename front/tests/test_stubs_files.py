@@ -161,7 +161,7 @@ class Cache(StubCase):
         """Executes what `try` executes after the play of a record whose leg 0 ended so."""
         self.environment["ACTRUN_PROGRAM"] = str(self.program("actrun", f"cat >/dev/null; echo 'leg 0 ended {ends}'"))
         command = actions.after_play(sys.executable, self.write("record", "{}\n"))
-        environment = {**self.environment, "GITHUB_WORKSPACE": "/"}  # of no leg
+        environment = {**self.environment, "GITHUB_WORKSPACE": "/", "RUNNER_TEMP": str(self.room)}  # of no leg
         return subprocess.run(command, env=environment, cwd=self.room, capture_output=True, text=True, check=True).stdout
 
     def test_the_cache_action_saves_after_a_success_alone(self) -> None:

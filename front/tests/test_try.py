@@ -132,6 +132,9 @@ class Steps(TryCase):
 - run: cat file; echo more >> file; sleep 0.2; wc -l < file; touch left-${{ matrix.word }}
 - run: |
     echo ${{ matrix.word }} > ../beside; sleep 0.2; [ "$(cat ${{ runner.workspace }}/beside $RUNNER_WORKSPACE/beside | tr '\\n' ' ')" = "${{ matrix.word }} ${{ matrix.word }} " ]
+- run: |
+    [ ! -e "$RUNNER_TEMP/word" ]; echo ${{ matrix.word }} > "$RUNNER_TEMP/word"; sleep 0.2; [ "$(cat ${{ runner.temp }}/word)" = ${{ matrix.word }} ]
+    [ '${{ toJSON(runner) }}' != '${{ fromJSON(toJSON(runner)).temp }}' ]; [ "$RUNNER_TEMP" = '${{ fromJSON(toJSON(runner)).temp }}' ]
 - run: ls | tr '\\n' ' '; [ "$PWD" = "${{ github.workspace }}" ] && [ "$PWD" = "$GITHUB_WORKSPACE" ]; git status --porcelain
 """, "on: push\njobs:\n  one:\n    runs-on: ubuntu-latest\n    strategy:\n      matrix:\n        word: [a, b]\n    steps:\n")
         self.commit()

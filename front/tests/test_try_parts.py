@@ -329,6 +329,15 @@ class Surroundings(unittest.TestCase):
                              "work": {"kind": "run", "run": "${{ github.workspace }}", "dir": "d"}}, False)
         self.assertEqual((step["env"], step["work"]["run"]), ({"ACTRUN_DIRECTORY": "d"}, "${{ github.workspace }}"))
 
+    def test_settle_of_temporary_files(self) -> None:
+        temp = "/w/it's {x}/play/temp"
+        for own_trees in (True, False):
+            step = self.settled({"env": {}, "tolerate": False, "condition": None, "work": {
+                "kind": "run", "dir": None, "run": f"ls {temp}/a ${{{{ fromJSON('{{\"temp\":\"{temp.replace(chr(39), chr(39) * 2)}\"}}').temp }}}}"}}, own_trees)
+            own = "/w/it''s {{x}}/play/temp/4-{0}"
+            self.assertEqual(step["work"]["run"], "ls ${{ format('%s', strategy.job-index) }}/a "
+                             "${{ fromJSON(format('{{\"temp\":\"%s\"}}', strategy.job-index)).temp }}" % (own, own))
+
 
 class Signals(unittest.TestCase):
     """Signals while a plan is executed."""
