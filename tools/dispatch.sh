@@ -35,7 +35,7 @@ needs_no_program() {
 
 # whether the words ask how a command is used, which docs/commands.txt says
 asks_usage() {
-  [ $# -eq 2 ] && [ "$2" = --help ]
+  if is_by_time "$@"; then has_word --help "$@"; else [ $# -eq 2 ] && [ "$2" = --help ]; fi
 }
 
 # prints how a command is used; fails where there is no such command
