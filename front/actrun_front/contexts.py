@@ -17,6 +17,7 @@ from .tree import GITHUB, Facts, Room, git
 
 GREATEST = 9007199254740991
 NO_COMMIT = "0" * 40
+NUMBER = r"[-+]?(\d+\.?\d*|\.\d+)([eE][-+]?\d+)?"
 COMMIT = re.compile("[0-9a-f]{40,64}")
 MOST_COMMITS = 20
 NAMES = {"Darwin": "macOS", "x86_64": "X64", "AMD64": "X64", "aarch64": "ARM64", "arm64": "ARM64", "i386": "X86", "i686": "X86"}
@@ -126,7 +127,7 @@ def read_inputs(trigger: Any, values: dict[str, str], workflow: str) -> dict[str
     result: dict[str, Any] = {}
     for name, entry in (declared if isinstance(declared, dict) else {}).items():
         entry = entry if isinstance(entry, dict) else {}
-        kind, choices = entry.get("type"), entry.get("options")
+        kind, choices = str(entry.get("type")), entry.get("options")
         choices = list(map(text_of, choices)) if kind == "choice" and isinstance(choices, list) else []
         value = next((text for key, text in values.items() if key.lower() == name.lower()), entry.get("default"))
         text = text_of(value)
@@ -137,10 +138,11 @@ def read_inputs(trigger: Any, values: dict[str, str], workflow: str) -> dict[str
         elif choices and text not in choices:
             raise Problem(f"{workflow}: the input {name} is {text}, which is none of {', '.join(choices)}: --input {name}=ONE_OF_THEM")
         elif kind in ("boolean", "number"):
-            if not re.fullmatch("(?i)true|false" if kind == "boolean" else "0|-?[1-9][0-9]{0,14}", text):
-                what = "truth value: --input {0}=true, or false" if kind == "boolean" else "whole number: --input {0}=1"
+            if not re.fullmatch("(?i)true|false" if kind == "boolean" else NUMBER, text):
+                what = "truth value: --input {0}=true, or false" if kind == "boolean" else "number: --input {0}=1"
                 raise Problem(f"{workflow}: the input {name} is {text}, no {what.format(name)}")
-            result[name] = json.loads(text.lower())
+            # (fractions stay texts, and so do numbers that are too great)
+            result[name] = json.loads(text.lower()) if kind == "boolean" or re.fullmatch("0|-?[1-9][0-9]{0,14}", text) else text
         else:
             result[name] = text
     return result

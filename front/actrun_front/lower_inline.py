@@ -35,9 +35,9 @@ def input_expressions(declared: Any, given: Any) -> Dict[str, str]:
     """The expressions of inputs, their names in small letters: the given values, else the defaults, by the declared types."""
     values = {name.lower(): part(declared, name).get("default") for name in declared}
     values.update((name.lower(), value) for name, value in given.items())
-    kinds, found = {name.lower(): part(declared, name).get("type") for name in declared}, {}
+    kinds, found = {name.lower(): str(part(declared, name).get("type")) for name in declared}, {}
     for name, value in values.items():
-        kind = kinds.get(name)
+        kind = kinds.get(name, "")
         if kind in MISSING and isinstance(value, str) and not has_expression(value):
             value = plain_value(value)
         expression = MISSING.get(kind, "''") if value is None else expression_of(value)
