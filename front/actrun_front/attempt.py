@@ -64,11 +64,13 @@ def attempt(arguments: list[str], screen: Screen) -> int:
     top = find_project(start, whole) if whole and not line.workflows else whole or start.resolve()
     options = words.complete(arguments, here, top)
     event, looks = options.event or "push", bool(options.list or options.dryrun or options.graph)
-    flows = read_flows(workflow_files(options.workflows, [here, start, top], top), top, screen)
+    files = workflow_files(options.workflows, [here, start, top], top)
+    flows = read_flows(files, top, screen)
+    least = 2 if len(flows) < len(files) else 0
     if options.list:
         for text in table(job_rows(of_event(flows, event, None, screen) if options.event else flows)):
             screen.say(text)
-        return 0
+        return least
     facts = read_facts(top, whole is not None, whole is not None and whole.resolve() != top.resolve())
     payload = read_payload(options.eventpath) if options.eventpath else None
     picked = of_event(flows, event, options.job, screen)
@@ -79,13 +81,7 @@ def attempt(arguments: list[str], screen: Screen) -> int:
         for text in () if looks else rooms.copy_tree(facts, room, bool(options.in_place)):
             screen.tell(f"note: not copied: {text}", "note")
         plan = make_plan(picked, play, screen)
-        if not looks:
-            return Trial(picked, play, plan, screen).execute()
-        for text in look(plan, picked, play):
-            screen.say(text)
-        if options.graph and sys.stdout.isatty():
-            screen.tell("note: this is for Graphviz: actrun try -g | dot -Tsvg > graph.svg", "note")
-        return 0
+        return max(look(plan, picked, play, screen) if looks else Trial(picked, play, plan, screen).execute(), least)
     finally:
         room.lock.close()
         if looks or not (room.private / "record").exists():
@@ -100,15 +96,26 @@ def next_number(top: Path) -> int:
         return file.tell()
 
 
-def look(plan: dict[str, Any], flows: list[Flow], play: Play) -> Iterable[str]:
-    """The graph of the plan, or its tree with the stubs of its actions and the jobs that execute nothing here."""
-    if play.options.graph:
-        write_private(play.room.private / "plan", json.dumps(plan, ensure_ascii=False))
-        answer = ask("graph", play.room.private / "plan")
-        if answer.returncode != 0:
-            raise Problem(answer.stderr.strip().removeprefix("actrun: "), answer.returncode)
-        yield answer.stdout.rstrip("\n")
-        return
+def look(plan: dict[str, Any], flows: list[Flow], play: Play, screen: Screen) -> int:
+    """Shows the graph of the plan, or its tree with the stubs of its actions and the jobs that execute nothing here."""
+    for text in [graph_of(plan, play)] if play.options.graph else tree_of(plan, flows, play):
+        screen.say(text)
+    if play.options.graph and sys.stdout.isatty():
+        screen.tell("note: this is for Graphviz: actrun try -g | dot -Tsvg > graph.svg", "note")
+    return 0
+
+
+def graph_of(plan: dict[str, Any], play: Play) -> str:
+    """The graph of a plan."""
+    write_private(play.room.private / "plan", json.dumps(plan, ensure_ascii=False))
+    answer = ask("graph", play.room.private / "plan")
+    if answer.returncode != 0:
+        raise Problem(answer.stderr.strip().removeprefix("actrun: "), answer.returncode)
+    return answer.stdout.rstrip("\n")
+
+
+def tree_of(plan: dict[str, Any], flows: list[Flow], play: Play) -> Iterable[str]:
+    """The tree of a plan."""
     stubs = stubs_of(plan, play)
     stands = {**dict.fromkeys(stubs.programs, "stub"), **dict.fromkeys(stubs.named, "named program"),
               **dict.fromkeys(stubs.missing, "no stub, its step fails"), **dict.fromkeys(stubs.lenient, "no stub, its step is skipped")}

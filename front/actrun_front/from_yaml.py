@@ -8,7 +8,9 @@ import pathlib
 import sys
 from typing import Any
 
+from . import Problem
 from .lower import Setting, lower
+from .options import matrix, unknown_matrix
 from .yaml_reader import Document, Note, Refused, read_document, text_of
 
 ABOUT = """\
@@ -34,13 +36,6 @@ actions of the repository, matrices and variables by expression, limits of time,
 Exit statuses: 0 all JSON is written, 2 the arguments or a FILE is refused, 3 a file, a stream or the library failed."""
 
 
-def variable(text: str) -> tuple[tuple[str, str], Any]:
-    """The job, the variable and the value of `JOB.VARIABLE=JSON`."""
-    place, _, value = text.partition("=")
-    job, _, name = place.rpartition(".")
-    return (job, name), json.loads(value)
-
-
 def parsed(given: list[str]) -> argparse.Namespace:
     """The options; where they make no sense the process ends with a line that says why."""
     parser = argparse.ArgumentParser("from-yaml", "from-yaml [-o OUT] [--lower [OPTION..]] FILE..", ABOUT, allow_abbrev=False,
@@ -53,11 +48,15 @@ def parsed(given: list[str]) -> argparse.Namespace:
         "same file to `actrun plan`")
     add("--repository", metavar="DIR", help="the folder that hashFiles, ./ACTION and ./.github/workflows/FILE look in; without it the one with "
         "the .github/workflows that FILE is in, else the current folder")
-    add("--matrix", action="append", default=[], type=variable, metavar="JOB.VARIABLE=JSON", help="the value of a matrix variable, of `matrix`, "
+    add("--matrix", action="append", default=[], type=matrix, metavar="JOB.VARIABLE=JSON", help="the value of a matrix variable, of `matrix`, "
         "`include`, `exclude`, `fail-fast` or `max-parallel`")
     add("--any-system", action="store_true", help="let legs for Windows and macOS execute their steps here")
     add("names", nargs="+", metavar="FILE", help="a workflow in YAML; - is standard input")
-    options = parser.parse_args(given)
+    try:
+        options = parser.parse_args(given)
+    except Problem as problem:
+        parser.error(str(problem))
+    options.asked = set()  # (job, variable): the places for which --matrix can have a value
     if options.o is not None and len(options.names) > 1:
         parser.error("-o takes the JSON of one FILE")
     if not options.lower and (options.contexts or options.repository or options.matrix or options.any_system):
@@ -82,6 +81,7 @@ def lowered(document: Document, name: str, options: argparse.Namespace, known: d
         done = lower(document, name, Setting(pathlib.Path(options.repository or found), known, dict(options.matrix), options.any_system))
     except Refused as refused:
         return Document(faults=[Note(refused.line, refused.text)])
+    options.asked |= done.asked
     return Document(done.value, notes=sorted([*document.notes, *done.notes], key=lambda note: note.line))
 
 
@@ -114,4 +114,8 @@ def main(arguments: list[str]) -> int:
     except (OSError, ValueError) as fault:
         print(f"from-yaml: --contexts {options.contexts}: {getattr(fault, 'strerror', None) or fault}", file=sys.stderr)
         return 3 if isinstance(fault, OSError) else 2
-    return max(convert(name, options, known) for name in options.names)
+    status = max(convert(name, options, known) for name in options.names)
+    wrong = "" if status else unknown_matrix(options.matrix, options.asked)
+    if wrong:
+        print(f"from-yaml: {wrong}", file=sys.stderr)
+    return 2 if wrong else status

@@ -5,7 +5,7 @@ import hashlib
 import re
 import shutil
 from dataclasses import dataclass, field
-from typing import Any, Dict, List, Tuple
+from typing import Any, Dict, List, Set, Tuple
 
 from .expressions import EvaluationError, Rules, as_text, expression_of, grouped, has_expression, known_keys, rewrite_template
 from .lower_inline import inline_actions, inline_calls
@@ -39,8 +39,12 @@ done
 limit=$ACTRUN_MINUTES status=0
 unset ACTRUN_SHELL ACTRUN_MINUTES
 [ -n "$limit" ] || exec "${started[@]}"
-timeout --kill-after=10 "${limit}m" "${started[@]}" || status=$?
-case $status in 124 | 137) echo "::error::the step was ended after $limit minutes, its timeout-minutes" ;; esac
+# (what `timeout` itself says goes into a file: a script may end with 124 too)
+timeout --verbose --kill-after=10 "${limit}m" sh -c 'exec "$@" 2>&3 3>&-' sh "${started[@]}" 3>&2 2>"${0%.sh}.limit" || status=$?
+case $status:$(cat "${0%.sh}.limit") in
+  124:?* | 137:?*) echo "::error::the step was ended after $limit minutes, its timeout-minutes" ;;
+  *:?*) echo "::error::timeout-minutes is $limit, but has to be a number" ;;
+esac
 exit "$status"
 """
 
@@ -52,6 +56,7 @@ class Lowered:
     lines: Dict[Path, int]  # places in `value` -> line of the YAML file
     notes: List[Note] = field(default_factory=list)
     foreign: List[Tuple[str, str]] = field(default_factory=list)  # (job id, labels of runs-on) of legs that execute nothing here
+    asked: Set[Tuple[str, str]] = field(default_factory=set)  # (job id, variable): what --matrix can give
 
 
 def lower(document: Document, file: str, setting: Setting) -> Lowered:
@@ -65,7 +70,7 @@ def lower(document: Document, file: str, setting: Setting) -> Lowered:
             if isinstance(job, dict) and isinstance(job.get("steps"), list):
                 lower_job(lowering, flow, job_id, job)
         drop_default_shell(flow)
-    return Lowered(flow, lines_of(flow), sorted(lowering.notes, key=lambda note: note.line), lowering.foreign)
+    return Lowered(flow, lines_of(flow), sorted(lowering.notes, key=lambda note: note.line), lowering.foreign, lowering.asked)
 
 
 def lower_job(lowering: Lowering, flow: Any, job_id: str, job: Any) -> None:

@@ -29,6 +29,7 @@ def lower_strategy(lowering: Lowering, job_id: str, job: Any) -> None:
 def decide(lowering: Lowering, job_id: str, node: Any, key: str) -> None:
     """Puts the value of `--matrix` in place of a member, else values in place of the expressions in it. Refuses one of another kind."""
     mark, given = mark_of(node, key), lowering.setting.matrices
+    lowering.asked.add((job_id, key))
     if (job_id, key) in given:
         node[key] = json.loads(json.dumps(given[job_id, key]), parse_float=str)
         lowering.note(mark, f"{key} of job {job_id} is {shown(given[job_id, key])}, as --matrix gives it")

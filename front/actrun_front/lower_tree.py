@@ -37,6 +37,7 @@ class Lowering:
         self.setting = setting
         self.notes: Dict[Note, None] = {}
         self.foreign: List[Tuple[str, str]] = []
+        self.asked: Set[Tuple[str, str]] = set()  # (job id, variable): the places where a value could have been given
         self.value_of = setting.evaluate or program.evaluate
         self.combinations = setting.legs or program.legs  # raises EvaluationError where the planner refuses a matrix
         self.workspace = str((setting.contexts.get("github") or {}).get("workspace") or setting.repository.absolute()).rstrip("/")

@@ -2,22 +2,33 @@
 from __future__ import annotations
 
 import argparse
+import functools
 import getpass
 import json
 import os
 import re
 import sys
 from pathlib import Path
-from typing import Any
+from typing import Any, Callable, Iterable
 
 from . import Problem
+from .explain import near
 
 MOST_WORKERS = 16
 RC_NAME = ".actrunrc"
 # what the file of a repository must not decide for its reader: more rights for steps, and what they see of the machine
 NOT_IN_REPOSITORY = ("directory", "in_place", "keep", "no_sandbox", "secret", "secret_file")
 PAIR = re.compile(r"""[ \t]*(?:export[ \t]+)?([A-Za-z_][\w.-]*)[ \t]*=[ \t]*
-    (?:"((?:[^"\\]|\\.)*)"|'([^']*)'|([^\n]*?))[ \t]*(?:(?<=[ \t])\#[^\n]*)?(?:\n|\Z)|[ \t]*(?:\#[^\n]*)?(?:\n|\Z)""", re.VERBOSE | re.DOTALL)
+    (?:"((?:[^"\\]|\\.)*)"|'([^']*)'|(?![ \t"'])([^\n]*?))[ \t]*(?:(?<=[ \t])\#[^\n]*)?(?:\n|\Z)|[ \t]*(?:\#[^\n]*)?(?:\n|\Z)""", re.VERBOSE | re.DOTALL)
+FLAG = {"action": "store_const", "const": True}
+ABOUT = """\
+Finds the workflows of the repository, plans them for EVENT, executes them on a copy of
+the working tree in a sandbox, and explains what did not succeed."""
+END = f"""\
+Options can also be in {RC_NAME} of the repository or of ~/.config/actrun/, one a line;
+that of the repository cannot hold secrets or lift the sandbox. Exit status: 0 all runs
+succeeded, 1 a run failed or was cancelled, 2 an option or a file is wrong, 3 the system
+failed, 4 a run is not closed, 130 Ctrl-C."""
 ESCAPES = {"n": "\n", "r": "\r", "t": "\t"}
 
 
@@ -36,6 +47,9 @@ def pair(text: str) -> tuple[str, str | None]:
     return name, value if equals else None
 
 
+MANY = {"action": "append", "default": [], "type": pair}
+
+
 def matrix(text: str) -> tuple[tuple[str, str], Any]:
     """Job, variable and value of `JOB.VARIABLE=JSON`."""
     found = re.fullmatch(r"([\w-]+)\.([^=]+)=(.*)", text, re.DOTALL)
@@ -45,56 +59,69 @@ def matrix(text: str) -> tuple[tuple[str, str], Any]:
         raise Problem(f"--matrix {text}: write --matrix JOB.VARIABLE=JSON, as --matrix 'test.python=[\"3.11\", \"3.12\"]'") from None
 
 
+def unknown_matrix(given: Iterable[tuple[tuple[str, str], Any]], known: Iterable[tuple[str, str]]) -> str:
+    """The error of the first --matrix that no job asks for, or nothing."""
+    names = [".".join(place) for place in known]
+    wrong = next((name for name in (".".join(place) for place, _ in given) if name not in names), None)
+    return f"--matrix {wrong}: no job has this variable in its matrix{near(wrong, names)}" if wrong else ""
+
+
+def stub(base: Path, text: str) -> tuple[str, str]:
+    """Action and program of `ACTION=PROGRAM`; a program with a slash is looked for from `base`."""
+    action, _, program = text.partition("=")
+    if not action or not program:
+        raise Problem(f"--stub {text}: write --stub ACTION=PROGRAM, as --stub codecov/codecov-action=/usr/bin/true")
+    return action, str(base / program) if "/" in program else program
+
+
 def parser(base: Path = Path(), place: str = "") -> Parser:
     """The parser of the command line and of the lines of `.actrunrc`; files are looked for from `base`."""
-    result = Parser(prog="actrun try", allow_abbrev=False, formatter_class=argparse.RawDescriptionHelpFormatter, description=(
-        "Finds the workflows of the repository, plans them for EVENT, executes them on a copy of\n"
-        "the working tree in a sandbox, and explains what did not succeed."), epilog=(
-        f"Options can also be in {RC_NAME} of the repository or of ~/.config/actrun/, one a line;\n"
-        "that of the repository cannot hold secrets or lift the sandbox. Exit status: 0 all runs\n"
-        "succeeded, 1 a run failed or was cancelled, 2 an option or a file is wrong, 3 the system\n"
-        "failed, 4 a run is not closed, 130 Ctrl-C."))
-
+    result = Parser(prog="actrun try", allow_abbrev=False, formatter_class=argparse.RawDescriptionHelpFormatter, description=ABOUT, epilog=END)
     result.place = place
-
-    def stub(text: str) -> tuple[str, str]:
-        action, _, program = text.partition("=")
-        if not action or not program:
-            raise Problem(f"--stub {text}: write --stub ACTION=PROGRAM, as --stub codecov/codecov-action=/usr/bin/true")
-        return action, str(base / program) if "/" in program else program
-    add = result.add_argument
-    flag = {"action": "store_const", "const": True}
     file = {"metavar": "FILE", "type": lambda text: base / text}
-    many = {"action": "append", "default": [], "type": pair}
+    for add_some in (add_choices, add_values, add_ways):
+        add_some(result.add_argument, base, file)
+    return result
+
+
+def add_choices(add: Callable[..., Any], _: Path, file: dict[str, Any]) -> None:
+    """The options that say what is done, and of which workflows."""
     add("event", nargs="?", metavar="EVENT", help="the event, as push, pull_request or workflow_dispatch (default: push)")
-    add("-l", "--list", help="list the jobs of all workflows, or those of EVENT, and execute nothing", **flag)
-    add("-n", "--dryrun", help="print runs, jobs, legs and steps as a tree, and execute nothing", **flag)
-    add("-g", "--graph", help="print the graph of the plan in DOT, as for `| dot -Tsvg`, and execute nothing", **flag)
+    add("-l", "--list", help="list the jobs of all workflows, or those of EVENT, and execute nothing", **FLAG)
+    add("-n", "--dryrun", help="print runs, jobs, legs and steps as a tree, and execute nothing", **FLAG)
+    add("-g", "--graph", help="print the graph of the plan in DOT, as for `| dot -Tsvg`, and execute nothing", **FLAG)
     add("-j", "--job", metavar="ID", help="execute this job and those that it needs")
     add("-W", "--workflows", metavar="PATH", help="file or folder of workflows (default: .github/workflows)")
     add("-C", "--directory", metavar="DIR", help="a folder of the repository (default: the current folder)")
     add("-e", "--eventpath", help="JSON file with the event's payload, which becomes github.event", **file)
-    add("-s", "--secret", metavar="NAME[=VALUE]", help="a secret; without a value from the environment, else asked for", **many)
+
+
+def add_values(add: Callable[..., Any], _: Path, file: dict[str, Any]) -> None:
+    """The options that give steps values."""
+    add("-s", "--secret", metavar="NAME[=VALUE]", help="a secret; without a value from the environment, else asked for", **MANY)
     add("--secret-file", help="file of secrets, a line NAME=VALUE each", **file)
-    add("--var", metavar="NAME=VALUE", help="a variable of the context vars", **many)
+    add("--var", metavar="NAME=VALUE", help="a variable of the context vars", **MANY)
     add("--var-file", help="file of variables of the context vars", **file)
-    add("--input", metavar="NAME=VALUE", help="an input of workflow_dispatch or workflow_call", **many)
+    add("--input", metavar="NAME=VALUE", help="an input of workflow_dispatch or workflow_call", **MANY)
     add("--input-file", help="file of inputs", **file)
-    add("--env", metavar="NAME[=VALUE]", help="an environment variable of all steps; without a value that of the caller", **many)
+    add("--env", metavar="NAME[=VALUE]", help="an environment variable of all steps; without a value that of the caller", **MANY)
     add("--env-file", help="file of environment variables", **file)
     add("--matrix", metavar="JOB.VARIABLE=JSON", help="the values of a matrix variable that is known only during execution",
-        **{**many, "type": matrix})
+        **{**MANY, "type": matrix})
+
+
+def add_ways(add: Callable[..., Any], base: Path, file: dict[str, Any]) -> None:
+    """The options that say how steps are executed."""
     add("--workers", metavar="N", type=int, choices=range(1, MOST_WORKERS + 1),
         help="legs that execute at once (default: the processors, at most 16; with --in-place 1)")
-    add("--stub", metavar="ACTION=PROGRAM", help="a program that stands for an action", **{**many, "type": stub})
+    add("--stub", metavar="ACTION=PROGRAM", help="a program that stands for an action", **{**MANY, "type": functools.partial(stub, base)})
     add("--stubs", help="JSON file, an object of such programs", **file)
-    add("--lenient", help="skip actions that have no stub, with a warning", **flag)
-    add("--any-system", help="execute the legs for Windows and macOS here", **flag)
-    add("--in-place", help="execute in the working tree itself, not in a copy", **flag)
+    add("--lenient", help="skip actions that have no stub, with a warning", **FLAG)
+    add("--any-system", help="execute the legs for Windows and macOS here", **FLAG)
+    add("--in-place", help="execute in the working tree itself, not in a copy", **FLAG)
     add("--keep", metavar="DIR", help="put the copy, the logs and the record into this new folder")
-    add("--no-sandbox", help="execute steps with all rights of the caller", **flag)
-    add("--offline", help="take the network away (needs the sandbox)", **flag)
-    return result
+    add("--no-sandbox", help="execute steps with all rights of the caller", **FLAG)
+    add("--offline", help="take the network away (needs the sandbox)", **FLAG)
 
 
 def rc_words(file: Path) -> list[str]:
@@ -130,6 +157,7 @@ def complete(words: list[str], here: Path, top: Path) -> argparse.Namespace:
     check_repository(of_tree.parse_args(rc_words(own)), own)
     options = parser(user.parent, f"{user}: ").parse_args(rc_words(user))
     options = parser(here).parse_args(words, of_tree.parse_args(rc_words(own), options))
+    options.line = parser(here).parse_args(words)  # (without those of the files, which may be for other workflows)
     for option, pairs in (("--var", options.var), ("--input", options.input)):
         for name in (name for name, value in pairs if not name or value is None):
             raise Problem(f"{option} {name}: write {option} {name or 'NAME'}=VALUE")
@@ -182,7 +210,7 @@ def named_values(file: Path | None, option: str) -> dict[str, str]:
         found = PAIR.match(text, at)
         if not found:
             number = text.count("\n", 0, at) + 1
-            raise Problem(f"{option} {file}:{number}: a line NAME=VALUE was expected")
+            raise Problem(f"{option} {file}:{number}: a line NAME=VALUE was expected; a quote that begins VALUE has to end it")
         name, double, single, plain = found.groups()
         if double is not None:
             double = re.sub(r"\\(.)", lambda match: ESCAPES.get(match[1], match[1]), double, flags=re.DOTALL)

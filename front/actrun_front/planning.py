@@ -8,12 +8,14 @@ from pathlib import Path
 from typing import Any
 
 from . import Problem
+from .actions import named_program
 from .contexts import Play, contexts, excluded, triggers
 from .environment import SH_HOOK
 from .execute import ask
-from .explain import explain
+from .explain import explain, near
 from .lower import Lowered, Refused, Setting, lower
-from .lower_tree import part, texts
+from .lower_tree import part, steps_of, texts
+from .options import unknown_matrix
 from .present import Screen, one_line
 from .yaml_reader import Document, read_document
 
@@ -45,8 +47,8 @@ def workflow_files(given: str | None, bases: list[Path], top: Path) -> list[Path
 
 
 def read_flows(files: list[Path], top: Path, screen: Screen) -> list[Flow]:
-    """The workflows of these files; their faults are shown, with line and remedy, before the problem."""
-    flows, faulty = [], 0
+    """The workflows of these files without those that have faults, which are shown with line and remedy. At least one is without."""
+    flows = []
     for path in files:
         name = path.resolve().relative_to(top.resolve()).as_posix() if top.resolve() in path.resolve().parents else str(path)
         document = read_document(path.read_bytes())
@@ -55,10 +57,11 @@ def read_flows(files: list[Path], top: Path, screen: Screen) -> list[Flow]:
             faults = [f"{name}:1: a workflow with `on` and `jobs` was expected"]
         for fault in faults:
             screen.tell(fault, "failure")
-        faulty += bool(faults)
-        flows.append(Flow(name, document))
-    if faulty:
-        raise Problem(f"{faulty} of {len(files)} workflows cannot be read: repair them, or choose others by --workflows PATH")
+        flows += [] if faults else [Flow(name, document)]
+    if not flows:
+        raise Problem("no workflow can be read: repair one, or choose others by --workflows PATH")
+    if len(flows) < len(files):
+        screen.tell(f"note: {len(files) - len(flows)} of {len(files)} workflows cannot be read: the others go on, and the status is 2", "warning")
     return flows
 
 
@@ -83,9 +86,7 @@ def make_plan(flows: list[Flow], play: Play, screen: Screen) -> dict[str, Any]:
         lower_flow(flow, number, play, screen)
     if flows[0].contexts["github"]["event"].keys() == {"repository", "sender"} and play.event != "workflow_call" and play.payload is None:
         screen.tell(f"note: github.event of {play.event} has only repository and sender: --eventpath FILE names a whole payload", "note")
-    unknown = set(map(str.lower, play.options.inputs)) - {name.lower() for flow in flows for name in flow.contexts["inputs"]}
-    if unknown:
-        raise Problem(f"--input {min(unknown)}: no workflow declares this input for the event {play.event}")
+    check_names(flows, play)
     files = [str(play.room.private / f"{number}.json") for number in range(len(flows))]
     words = ["plan", *(["--job", play.options.job] if play.options.job else ["--event", play.event]), *files]
     answer = ask(*words)
@@ -97,6 +98,21 @@ def make_plan(flows: list[Flow], play: Play, screen: Screen) -> dict[str, Any]:
     for run, flow in zip(plan["runs"], flows):
         run["roots"] = {name: flow.contexts[name] for name in ("github", "inputs", "secrets", "vars")}
     return plan
+
+
+def check_names(flows: list[Flow], play: Play) -> None:
+    """Refuses an option of the command line that names what no workflow has, and an input that none declares."""
+    unknown = set(map(str.lower, play.options.inputs)) - {name.lower() for flow in flows for name in flow.contexts["inputs"]}
+    if unknown:
+        raise Problem(f"--input {min(unknown)}: no workflow declares this input for the event {play.event}")
+    wrong = unknown_matrix(play.options.line.matrix, {place for flow in flows for place in flow.lowered.asked})
+    if wrong:
+        raise Problem(wrong)
+    jobs = [job for flow in flows for job in part(flow.lowered.value, "jobs").values() if isinstance(job, dict)]
+    actions = sorted({step["uses"] for job in jobs for step in steps_of(job) if isinstance(step.get("uses"), str)})
+    for action, named in play.options.line.stub:
+        if not any(named_program(text, {action: named}) for text in actions):
+            raise Problem(f"--stub {action}={named}: no workflow of the event {play.event} uses this action{near(action, actions)}")
 
 
 def lower_flow(flow: Flow, number: int, play: Play, screen: Screen) -> None:

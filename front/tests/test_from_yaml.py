@@ -176,6 +176,15 @@ class Lower(unittest.TestCase):
             "steps": [{"id": "s", "run": f"{digest} mine", "env": {"GITHUB_ACTION": "s"}}]})
         self.assertEqual([line.split(": ")[0] for line in told.splitlines()], [f"{self.name}:{line}" for line in (4, 5, 7, 7)])
 
+    def test_wrong_values_of_a_matrix(self):
+        self.write(self.name, "on: push\njobs:\n  a:\n    strategy: {matrix: {v: '${{ needs.b.outputs.v }}'}}\n    steps: []\n")
+        for given, said in (("a.v=[", "error: --matrix a.v=[: write --matrix JOB.VARIABLE=JSON"), ("v=[1]", "error: --matrix v=[1]: write --matrix")):
+            printed, told, status = run(["--lower", "-o", "-", "--matrix", given, self.name])
+            self.assertEqual((printed, status), ("", 2))
+            self.assertIn(said, told)
+        _, told, status = run(["--lower", "-o", "-", "--matrix", "a.v=[1]", "--matrix", "a.w=[1]", self.name])
+        self.assertEqual((told.splitlines()[-1], status), ("from-yaml: --matrix a.w: no job has this variable in its matrix; did you mean a.v?", 2))
+
     def test_refused(self):
         self.write(self.name, "on: push\njobs:\n  a:\n    strategy: {matrix: '${{ needs.b.outputs.v }}'}\n    steps: []\n")
         printed, told, status = run(["--lower", "-o", "-", self.name])

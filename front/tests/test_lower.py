@@ -290,11 +290,15 @@ class Limits(LowerCase):
         if: always()
         shell: sh
         timeout-minutes: ${{ fromJSON('1') }}
-      - run: exit 7
+      - run: echo "to standard error" >&2; exit 124
         if: always()
         timeout-minutes: 1
+      - run: x
+        if: always()
+        timeout-minutes: ${{ fromJSON('"soon"') }}
 """)
-        self.assertEqual(self.run_plan(status=1), ["begun", "error: the step was ended after 0.1 minutes, its timeout-minutes", "in time "])
+        self.assertEqual(self.run_plan(status=1), ["begun", "error: the step was ended after 0.1 minutes, its timeout-minutes", "in time ",
+                                                   "to standard error", "error: timeout-minutes is soon, but has to be a number"])
         self.assertEqual(self.notes()[0], (3, "timeout-minutes of a job is not enforced; that of a step with a script is"))
 
     def test_others(self):

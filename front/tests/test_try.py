@@ -510,6 +510,23 @@ class BadInput(TryCase):
         self.assert_error(self.attempt("-s", "NOT_THERE"), 2, "--secret NOT_THERE", "--secret-file")
         self.assert_error(self.attempt("-e", "nowhere.json"), 2, "--eventpath", "nowhere.json")
 
+    def test_names_that_no_workflow_has(self) -> None:
+        self.workflow("- uses: actions/checkout@v4\n- run: 'true'")
+        self.assert_error(self.attempt("--matrix", "one.pyton=[1]"), 2, "--matrix one.pyton: no job has this variable in its matrix")
+        self.assert_error(self.attempt("--stub", "action/checkout=/bin/true"), 2,
+                          "--stub action/checkout=/bin/true: no workflow of the event push uses this action; did you mean actions/checkout@v4?")
+        self.write(".actrunrc", "--stub some/action=/bin/true\n--matrix two.v=[1]\n")  # (of other workflows)
+        self.assert_status(self.attempt("-n", "--stub", "actions/checkout=/bin/true"), 0)
+
+    def test_a_broken_workflow_keeps_no_other_from_being_executed(self) -> None:
+        self.write(".github/workflows/broken.yml", "on: release\non: push\n")
+        self.workflow("- run: echo through")
+        done = self.attempt()
+        self.assert_status(done, 2)
+        self.assertIn("through\n", done.stdout)
+        self.assertIn('.github/workflows/broken.yml:2: the key "on" is twice in one map\n', done.stderr)
+        self.assertIn("note: 1 of 2 workflows cannot be read: the others go on, and the status is 2\n", done.stderr)
+
     def test_secret_file(self) -> None:
         self.workflow("- run: 'true'")
         self.assert_error(self.attempt("--secret-file", "nowhere"), 2, "--secret-file", "nowhere")

@@ -44,6 +44,11 @@ class Options(TryCase):
             "A": "plain text", "B": 'two\nlines "q"', "C": "kept \\n $x", "KEY": "-----BEGIN\nmiddle\n-----END", "E": "", "F": "a#b",
             "G": "x"})
 
+    def test_pairs_with_an_open_quote(self) -> None:
+        for text in ('A=1\nB="unclosed\n', "A=1\nB= 'unclosed\nC=2\n", 'A=1\nB="un"closed\nC="x"\n'):
+            with self.assertRaisesRegex(Problem, r"--secret-file .*pairs:2: a line NAME=VALUE was expected; a quote that begins VALUE has to end it"):
+                options.named_values(self.write("pairs", text), "--secret-file")
+
     def test_pairs_that_are_none(self) -> None:
         with self.assertRaisesRegex(Problem, r"--var-file .*pairs:2: a line NAME=VALUE was expected"):
             options.named_values(self.write("pairs", "A=1\n=2\n"), "--var-file")
@@ -220,8 +225,15 @@ class Inputs(unittest.TestCase):
         found = read_inputs(self.TRIGGER, {"DRY": "true", "count": "-12", "level": "high", "word": "1"}, "ci.yml")
         self.assertEqual((found["dry"], found["count"], found["level"], found["word"]), (True, -12, "high", "1"))
 
+    def test_fractions_stay_texts(self) -> None:
+        found = read_inputs({"inputs": {"a": {"type": "number", "default": "1.5"}, "b": {"type": "number"}}}, {"b": "-1e3"}, "ci.yml")
+        self.assertEqual(found, {"a": "1.5", "b": "-1e3"})
+
+    def test_a_type_that_is_no_text(self) -> None:
+        self.assertEqual(read_inputs({"inputs": {"a": {"type": ["boolean"]}}}, {}, "ci.yml"), {"a": ""})
+
     def test_wrong(self) -> None:
-        for values, text in (({"dry": "maybe"}, "dry is maybe, no truth value"), ({"count": "1.5"}, "count is 1.5, no whole number"),
+        for values, text in (({"dry": "maybe"}, "dry is maybe, no truth value"), ({"count": "one"}, "count is one, no number: --input count=1"),
                              ({"level": "mid"}, "level is mid, which is none of low, high")):
             with self.assertRaisesRegex(Problem, text):
                 read_inputs(self.TRIGGER, values, "ci.yml")
