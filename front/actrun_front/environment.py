@@ -12,6 +12,7 @@ from typing import Any, Iterable, Mapping
 
 from .contexts import text_of
 from .expressions import TEXT, Access, Rules, has_expression, literal, rewrite, split, unquoted
+from .present import step_name
 from .tree import Room, cache_root
 
 # the first words of a script for sh, which has no BASH_ENV
@@ -139,10 +140,11 @@ def with_own_folders(job: dict[str, Any], room: Room, own_trees: bool) -> None:
         return "".join(f"${{{{{expression(text)}}}}}" if inside else plain(text) for inside, text in split(value))
     job["env"], job["outputs"] = own(job["env"]), own(job["outputs"])
     for step in job["steps"]:
-        condition = step["condition"]
+        condition, name, was = step["condition"], step_name(step), step["work"].get("run")
         step.update(env=own(step["env"]), tolerate=own(step["tolerate"]), condition=(
             expression(condition) if condition and not has_expression(condition) else own(condition)))
-        step["work"].update((name, own(step["work"][name])) for name in ("run", "with") if name in step["work"])
+        step["work"].update((key, own(step["work"][key])) for key in ("run", "with") if key in step["work"])
+        step["name"] = name if step["work"].get("run") != was else step["name"]  # (a step without a name is called by its script)
 
 
 def variables(room: Room, contexts: Mapping[str, Any], prelude: Path, cache: Path) -> dict[str, str]:

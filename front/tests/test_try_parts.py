@@ -326,7 +326,7 @@ class Surroundings(unittest.TestCase):
 
     def test_settle(self) -> None:
         step = self.settled({
-            "env": {"A": "${{ github.workspace }}/a", "BASH_ENV": "own"}, "tolerate": False, "condition": "github.workspace != ''",
+            "name": None, "env": {"A": "${{ github.workspace }}/a", "BASH_ENV": "own"}, "tolerate": False, "condition": "github.workspace != ''",
             "work": {"kind": "run", "run": "ls ${{ github.workspace }} /w/it's {x}/play/tree/b ${{ '/w/it''s {x}/play/tree/c{' }}",
                      "dir": "${{ github.workspace }}/d"}}, True)
         start = "format('/w/it''s {{x}}/play/legs/4-{0}%s', strategy.job-index)"
@@ -335,16 +335,17 @@ class Surroundings(unittest.TestCase):
         self.assertEqual(step["work"], {"kind": "run", "dir": None, "run": "ls ${{ %s }} ${{ %s }}/b ${{ %s }}" % (
             own, start % "", start % "/c{{")})
         self.assertEqual(step["condition"], f"{own} != ''")
+        self.assertEqual(step["name"], "ls ${{ github.workspace }} /w/it's {x}/play/tree/b ${{ '/w/it''s {x}/play/tree/c{' }}")
 
     def test_settle_of_a_shared_tree(self) -> None:
-        step = self.settled({"env": {}, "tolerate": False, "condition": None,
+        step = self.settled({"name": None, "env": {}, "tolerate": False, "condition": None,
                              "work": {"kind": "run", "run": "${{ github.workspace }}", "dir": "d"}}, False)
         self.assertEqual((step["env"], step["work"]["run"]), ({"ACTRUN_DIRECTORY": "d"}, "${{ github.workspace }}"))
 
     def test_settle_of_temporary_files(self) -> None:
         temp = "/w/it's {x}/play/temp"
         for own_trees in (True, False):
-            step = self.settled({"env": {}, "tolerate": False, "condition": None, "work": {
+            step = self.settled({"name": None, "env": {}, "tolerate": False, "condition": None, "work": {
                 "kind": "run", "dir": None, "run": f"ls {temp}/a ${{{{ fromJSON('{{\"temp\":\"{temp.replace(chr(39), chr(39) * 2)}\"}}').temp }}}}"}}, own_trees)
             own = "/w/it''s {{x}}/play/temp/4-{0}"
             self.assertEqual(step["work"]["run"], "ls ${{ format('%s', strategy.job-index) }}/a "
