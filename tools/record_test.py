@@ -494,6 +494,12 @@ class Refused(Case):
 class Signalled(Case):
     """What the script does at a signal."""
 
+    def setUp(self) -> None:
+        super().setUp()
+        # (also where the tests are started in the background or by `nohup`)
+        for number, handler in ((signal.SIGINT, signal.default_int_handler), (signal.SIGHUP, signal.SIG_DFL)):
+            self.addCleanup(signal.signal, number, signal.signal(number, handler))
+
     def stop(self, number: int, steps: list[dict] | None = None, again: bool = False) -> subprocess.CompletedProcess[str]:
         """What a run answers that gets a signal in its second step, and the same signal again and again until it ends."""
         words = self.script(*self.words(self.plan(steps or LONG)))

@@ -387,6 +387,12 @@ class InSandbox(TryCase):
 class Interrupted(TryCase):
     """Ctrl-C and other signals."""
 
+    def setUp(self) -> None:
+        super().setUp()
+        # (also where the tests are started in the background or by `nohup`)
+        for number, handler in ((signal.SIGINT, signal.default_int_handler), (signal.SIGHUP, signal.SIG_DFL)):
+            self.addCleanup(signal.signal, number, signal.signal(number, handler))
+
     def interrupt(self, *words: str, killed: bool = False, number: int = signal.SIGINT) -> tuple[int, str, str]:
         """Status and outputs of a play that is interrupted in its second step, or whose program is killed there."""
         seconds = f"6{{}}.{os.getpid()}"  # (that no other program of this machine sleeps)
