@@ -35,7 +35,7 @@ case ${{GITHUB_OUTPUT-}} in
   GITHUB_PATH={files}/path-${{actrun_place%-*}}
   GITHUB_STEP_SUMMARY={files}/summary-$actrun_place
   : >>"$GITHUB_PATH" >>"$GITHUB_STEP_SUMMARY"
-  [ -d "$RUNNER_TEMP" ] || mkdir -p "$RUNNER_TEMP"
+  [ -d "$RUNNER_TEMP" ] || mkdir -p "$RUNNER_TEMP" || :
   RUNNER_WORKSPACE=${{GITHUB_WORKSPACE%/*}}
   if [ ! -d "$GITHUB_WORKSPACE" ]; then
     mkdir -p "$RUNNER_WORKSPACE" && cp -a --reflink=auto {tree} "$GITHUB_WORKSPACE" ||

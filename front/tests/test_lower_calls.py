@@ -36,6 +36,11 @@ class Inlined(LowerCase):
         super().setUp()
         self.write(".github/workflows/called.yml", CALLED)
 
+    def test_an_input_whose_type_is_no_text(self):
+        self.write(".github/workflows/called.yml", CALLED.replace("{type: boolean}", "{type: [boolean]}"))
+        flow = self.lower("on: push\njobs: {call: {uses: ./.github/workflows/called.yml, with: {flag: 'no'}}}")
+        self.assertIn("${{ 'no' == true }}", flow["jobs"]["call__build"]["steps"][1]["run"])
+
     @needs_program
     def test_inputs_secrets_needs_and_outputs(self):
         flow = self.lower("""\
