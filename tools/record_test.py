@@ -161,7 +161,7 @@ class Growing(Case):
             self.assertEqual(lines[:1], whole[:1] if lines else [])
             return len(lines)
         with concurrent.futures.ThreadPoolExecutor(4) as pool:
-            counts = list(pool.map(kill, range(int(os.environ.get("ACTRUN_KILLS", "200" if ALL else "40")))))
+            counts = list(pool.map(kill, range(int(os.environ.get("ACTRUN_KILLS", "1000" if ALL else "40")))))
         if "ACTRUN_KILLS" in os.environ:
             print(sorted(counts), file=sys.stderr)
         self.assertTrue(any(1 < count < len(whole) for count in counts), counts)
