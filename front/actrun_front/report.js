@@ -582,6 +582,8 @@ function drawStep(one) {
       const note = make('p', 'muted', 'It is written at ');
       note.append(placeLink(done));
       section(['Log'], note);
+    } else if (log !== undefined) {
+      section(['Log', 'up to the end of the record, secrets masked'], make('pre', '', log || '(empty)'));
     }
   }
   if (one.condition) section(['Condition'], make('pre', '', one.condition));

@@ -183,11 +183,16 @@ def job_results(chart: str) -> dict[str, list]:
 
 
 def read_logs(record: Record, folder: pathlib.Path, masks: Masks, failed: set[str]) -> dict[str, str]:
-    """The masked logs of the steps that were called, those of failed steps first; a sentence where a log is left out."""
+    """The masked logs of the steps that were called, those of failed steps first; a sentence where a log is left out. A step that was
+    running when the record ended has a log where a signal ended the run."""
     called: dict[int, list[int]] = {}
     for place, entry in enumerate(record.entries):
         if entry["event"] == "end" and entry["answer"]["kind"] != "not-started":
             called.setdefault(entry["leg"], []).append(record.begun(entry["leg"], place) - 1)
+    for leg, begins in enumerate(record.begins):
+        step = len(begins) - 1
+        if begins and record.done[leg][-1] == begins[-1] and (folder / f"step-{leg}-{step}.log").is_file():
+            called.setdefault(leg, []).append(step)
     found, used = {}, 0
     for wanted in (True, False):
         for leg, steps in sorted(called.items()):

@@ -142,7 +142,7 @@ class Logs(unittest.TestCase):
     def test_each_log_is_read_twice_at_most_and_none_for_a_full_page(self) -> None:
         """Of failed steps, and of the others; the masks of earlier steps count."""
         entries = [{"event": "end", "leg": leg, "answer": {"kind": "exited"}} for leg in (0, 1) for _ in range(9)]
-        record = Namespace(entries=entries, begun=lambda leg, place: place - 9 * leg + 1)
+        record = Namespace(entries=entries, begun=lambda leg, place: place - 9 * leg + 1, begins=[], done=[])
         with tempfile.TemporaryDirectory() as room, mock.patch("actrun_front.dap_logs.read_log", wraps=dap_logs.read_log) as read:
             for leg, step in itertools.product((0, 1), range(9)):
                 Path(room, f"step-{leg}-{step}.log").write_text(f"::add-mask::{step}{step}\n{leg} {step}{step} 00\n", encoding="utf-8")
@@ -153,6 +153,15 @@ class Logs(unittest.TestCase):
             with mock.patch("actrun_front.report_data.LOGS", 5):
                 found = report_data.read_logs(record, Path(room), Masks(), {"0-1"})
             self.assertEqual((found["0-1"], found["1-8"][:9], read.call_count), ("0 *** ***\n", "(left out", 2))
+
+    def test_a_step_that_was_running_at_the_end_has_its_log(self) -> None:
+        """Where its file is there: the first leg's second step; the second leg's step had ended."""
+        record = Namespace(entries=[], begins=[[1, 3], [2]], done=[[2, 3], [4]])
+        with tempfile.TemporaryDirectory() as room:
+            self.assertEqual(report_data.read_logs(record, Path(room), Masks(), set()), {})
+            for name in ("0-1", "1-0"):
+                Path(room, f"step-{name}.log").write_text("waits\n", encoding="utf-8")
+            self.assertEqual(report_data.read_logs(record, Path(room), Masks(), set()), {"0-1": "waits\n"})
 
 
 @NEEDS_PROGRAM
