@@ -3,13 +3,23 @@ use Rattle.std.specs.Prelude.{ℕ, ◌+◌, ◌-◌, ◌*◌, ◌/◌, nat_lt, i
 use Rattle.board_timeline.specs.declared.frames.Lane.{Lane}
 use Rattle.board_timeline.specs.declared.shape.Frame.{Frame}
 
+-- Where bars begin, how wide the whole record is, and where the rows begin, below the legend.
+abbrev pub chart_left : ℕ
+chart_left = 430
+
+abbrev pub chart_width : ℕ
+chart_width = 900
+
+abbrev pub rows_top : ℕ
+rows_top = 62
+
 -- So many lines of a record that has so many.
 abbrev pub share : ℕ → ℕ → ℕ
-share parts whole = parts * 900 / whole
+share parts whole = parts * chart_width / whole
 
 -- Where a line begins; the first is that of the plan.
 abbrev pub place_of : ℕ → ℕ → ℕ
-place_of lines line = 430 + share (line - 1) lines
+place_of lines line = chart_left + share (line - 1) lines
 
 -- How wide a bar is, which is seen however short it is.
 abbrev pub width_of : ℕ → ℕ → ℕ
@@ -31,4 +41,4 @@ mark_frame lane line width =
 
 -- The whole record.
 abbrev pub lane_frame : Lane → Frame
-lane_frame lane = record { left = 430; top = lane.top; width = 900; height = lane.height }
+lane_frame lane = record { left = chart_left; top = lane.top; width = chart_width; height = lane.height }

@@ -1,7 +1,7 @@
 -- What stands above and behind the rows: the legend, and lines of the record.
 use Rattle.std.specs.Prelude.{ℕ, ◌+◌, ◌-◌, ◌/◌, ◌++◌, List, codes}
 use Rattle.board_timeline.specs.Bars.{shape}
-use Rattle.board_timeline.specs.Frames.{place_of}
+use Rattle.board_timeline.specs.Frames.{place_of, rows_top}
 use Rattle.board_timeline.specs.Words.{numbered}
 use Rattle.board_timeline.specs.declared.shape.Font.{Font}
 use Rattle.board_timeline.specs.declared.shape.Frame.{Frame}
@@ -52,11 +52,15 @@ legend = phase_keys ++ end_keys ++ step_keys ++ mark_keys
 
 -- ---- lines of the record
 
+-- Where the labels of lines have their base line.
+abbrev pub line_base : ℕ
+line_base = 58
+
 -- A line, from above the rows down to their end.
 unfoldable pub line_shapes : ℕ → ℕ → ℕ → List Shape
 line_shapes lines line bottom =
-    shape (Bar Look.Line) (frame_of (place_of lines line) 62 1 (bottom - 62)) (numbered (codes "line ") line)
-    ++ label Font.Note (place_of lines line) 58 (numbered (codes "line ") line)
+    shape (Bar Look.Line) (frame_of (place_of lines line) rows_top 1 (bottom - rows_top)) (numbered (codes "line ") line)
+    ++ label Font.Note (place_of lines line) line_base (numbered (codes "line ") line)
 
 -- The first of them, one in the middle, and the last.
 abbrev pub lines_shapes : ℕ → ℕ → List Shape

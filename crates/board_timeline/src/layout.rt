@@ -1,7 +1,6 @@
 //! The rows of a plan, one under the other.
 
 ghost use Rattle.std.specs.Prelude.{◌≡◌, ◌++◌, IfOk, OnOk};
-ghost use Rattle.std.specs.Option.{option_copied};
 ghost use Rattle.board_timeline.specs.Bars.{strip_seen};
 ghost use Rattle.board_timeline.specs.Layout as spec;
 
@@ -13,6 +12,7 @@ use crate::noted::Track;
 use crate::row::Row;
 use crate::shape::{Font, Shape};
 use crate::words::{row_name, row_text};
+use board_decisions::place::item_at;
 use flow_model::{JobPlan, Plan, RunPlan, Sequence};
 use std::alloc::{AllocError, Global};
 
@@ -129,35 +129,6 @@ fn add_leg_row(
 }
 
 /// Adds the row of the next leg of a job, if it was noted.
-fn add_noted_leg(
-    canvas: &mut Canvas,
-    lines: u64,
-    row: Option<&Row>,
-    job: &JobPlan,
-    at: Cursor,
-) -> Result<(), AllocError>
-    ensures { OnOk result (canvas.new ≡ canvas.old
-        ++ spec.leg_there lines job.now at (option_copied row.entry)) }
-{
-    let Some(row) = row else {
-        return Ok(());
-    };
-    let count = job.legs.len();
-    let name = row_name(canvas.alloc(), "leg ", at.leg, job.name.as_str())?;
-    let lane = Lane {
-        lines,
-        top: at.top,
-        height: leg_step(count) - 1,
-    };
-    let strip = Strip {
-        lane,
-        name: name.as_slice(),
-        steps: job.steps.as_slice(),
-    };
-    add_leg_row(canvas, &strip, row, count)
-}
-
-/// Adds the row of the next leg of a job, whose number finds it among the rows.
 fn add_leg(
     canvas: &mut Canvas,
     chart: &Chart<'_>,
@@ -167,8 +138,22 @@ fn add_leg(
     ensures { OnOk result (canvas.new ≡ canvas.old
         ++ spec.leg_shapes chart.now.lines chart.now.track.now.legs job.now at) }
 {
-    let rows = chart.track.legs.as_slice();
-    add_noted_leg(canvas, chart.lines, rows.get(at.leg as usize), job, at)
+    let Some(row) = item_at(&chart.track.legs, at.leg as usize) else {
+        return Ok(());
+    };
+    let count = job.legs.len();
+    let name = row_name(canvas.alloc(), "leg ", at.leg, job.name.as_str())?;
+    let lane = Lane {
+        lines: chart.lines,
+        top: at.top,
+        height: leg_step(count) - 1,
+    };
+    let strip = Strip {
+        lane,
+        name: name.as_slice(),
+        steps: job.steps.as_slice(),
+    };
+    add_leg_row(canvas, &strip, row, count)
 }
 
 /// The place after the row of a leg.
@@ -201,34 +186,6 @@ fn add_legs(
 }
 
 /// Adds the row of a job from this height on, if it was noted.
-fn add_noted_job(
-    canvas: &mut Canvas,
-    lines: u64,
-    row: Option<&Row>,
-    job: &JobPlan,
-    top: u64,
-) -> Result<(), AllocError>
-    ensures { OnOk result (canvas.new ≡ canvas.old
-        ++ spec.job_there lines job.now top (option_copied row.entry)) }
-{
-    let Some(row) = row else {
-        return Ok(());
-    };
-    let name = row_name(canvas.alloc(), "job ", job.number, job.name.as_str())?;
-    let lane = Lane {
-        lines,
-        top,
-        height: JOB_HEIGHT,
-    };
-    let strip = Strip {
-        lane,
-        name: name.as_slice(),
-        steps: &[],
-    };
-    add_labelled(canvas, &strip, row, Font::Job, JOB_LEFT)
-}
-
-/// Adds the row of a job from this height on, whose number finds it among the rows.
 fn add_job_row(
     canvas: &mut Canvas,
     chart: &Chart<'_>,
@@ -238,8 +195,21 @@ fn add_job_row(
     ensures { OnOk result (canvas.new ≡ canvas.old
         ++ spec.job_row chart.now.lines chart.now.track.now.jobs job.now top) }
 {
-    let rows = chart.track.jobs.as_slice();
-    add_noted_job(canvas, chart.lines, rows.get(job.number as usize), job, top)
+    let Some(row) = item_at(&chart.track.jobs, job.number as usize) else {
+        return Ok(());
+    };
+    let name = row_name(canvas.alloc(), "job ", job.number, job.name.as_str())?;
+    let lane = Lane {
+        lines: chart.lines,
+        top,
+        height: JOB_HEIGHT,
+    };
+    let strip = Strip {
+        lane,
+        name: name.as_slice(),
+        steps: &[],
+    };
+    add_labelled(canvas, &strip, row, Font::Job, JOB_LEFT)
 }
 
 /// Adds the row of a job and those of its legs, and gives the place after them.
@@ -277,42 +247,7 @@ fn add_jobs(
     Ok(at)
 }
 
-/// A run, with its number.
-#[derive(Clone, Copy)]
-struct NumberedRun<'a> {
-    number: u64,
-    plan: &'a RunPlan,
-}
-
-/// Adds the row of a run from this height on, if it was noted.
-fn add_noted_run(
-    canvas: &mut Canvas,
-    lines: u64,
-    row: Option<&Row>,
-    run: &NumberedRun<'_>,
-    top: u64,
-) -> Result<(), AllocError>
-    ensures { OnOk result (canvas.new ≡ canvas.old
-        ++ spec.run_there lines run.now.number run.now.plan.now top (option_copied row.entry)) }
-{
-    let Some(row) = row else {
-        return Ok(());
-    };
-    let name = row_name(canvas.alloc(), "run ", run.number, run.plan.flow.as_str())?;
-    let lane = Lane {
-        lines,
-        top,
-        height: RUN_HEIGHT,
-    };
-    let strip = Strip {
-        lane,
-        name: name.as_slice(),
-        steps: &[],
-    };
-    add_labelled(canvas, &strip, row, Font::Run, RUN_LEFT)
-}
-
-/// Adds the row of the run at a place from this height on.
+/// Adds the row of the run at a place from this height on, if it was noted.
 fn add_run_row(
     canvas: &mut Canvas,
     chart: &Chart<'_>,
@@ -323,12 +258,21 @@ fn add_run_row(
     ensures { OnOk result (canvas.new ≡ canvas.old
         ++ spec.run_row chart.now.lines chart.now.track.now.runs place run.now top) }
 {
-    let rows = chart.track.runs.as_slice();
-    let run = NumberedRun {
-        number: place as u64,
-        plan: run,
+    let Some(row) = item_at(&chart.track.runs, place) else {
+        return Ok(());
     };
-    add_noted_run(canvas, chart.lines, rows.get(place), &run, top)
+    let name = row_name(canvas.alloc(), "run ", place as u64, run.flow.as_str())?;
+    let lane = Lane {
+        lines: chart.lines,
+        top,
+        height: RUN_HEIGHT,
+    };
+    let strip = Strip {
+        lane,
+        name: name.as_slice(),
+        steps: &[],
+    };
+    add_labelled(canvas, &strip, row, Font::Run, RUN_LEFT)
 }
 
 /// Adds the row of a run and those of its jobs, and gives the place after them.

@@ -9,6 +9,9 @@ use crate::shape::{Font, Frame, Look, ShapeKind};
 use crate::words::{numbered, worded};
 use std::alloc::AllocError;
 
+/// Where the labels of lines have their base line.
+const LINE_BASE: u64 = 58;
+
 /// Adds a label.
 pub(crate) fn add_label(
     canvas: &mut Canvas,
@@ -130,7 +133,7 @@ fn add_line(canvas: &mut Canvas, lines: u64, line: u64, bottom: u64) -> Result<(
     let title = numbered(canvas.alloc(), "line ", line)?;
     canvas.add(ShapeKind::Bar(Look::Line), frame, title)?;
     let text = numbered(canvas.alloc(), "line ", line)?;
-    add_label(canvas, Font::Note, left, 58, text)
+    add_label(canvas, Font::Note, left, LINE_BASE, text)
 }
 
 /// The line in the middle of a record.
