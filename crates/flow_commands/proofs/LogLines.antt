@@ -1,7 +1,8 @@
 -- The lines of a log that are told, one more.
-use Rattle.std.proofs.Common.{◌≡◌, ℕ, Bool, true, false, if◌then◌else◌, codes, string_bytes, Option, Some, None, List, [], ◌∷◌, ◌++◌, flat_map, refl, sym, ap, ◌∙◌, append_assoc}
+use Rattle.std.proofs.Common.{◌≡◌, ◌==◌, ℕ, Bool, true, false, not, true≢false, if◌then◌else◌, codes, string_bytes, Option, Some, None, List, [], ◌∷◌, ◌++◌, flat_map, refl, sym, ap, ◌∙◌, append_assoc}
 use Rattle.std.proofs.lemmas.List.Concat.{flat_map-append}
 use Rattle.std.specs.Str.{is_utf8}
+use Rattle.flow_model.specs.Lines.{lines_of, newline, onto_first}
 use Rattle.flow_commands.specs.CommandTexts.{commands, is_resuming, opened, read_as, read_from, stopped_by}
 use Rattle.flow_commands.specs.Logs.{bytes_told, leg_masks, line_text, lines_text, lines_told, logs_text, no_text, of_leg, told_with}
 use Rattle.flow_commands.specs.Shown.{line_shown, masked_line, masks_added, shown}
@@ -24,6 +25,34 @@ pub plain_line : (line : List ℕ) → after_front (codes "::") (from_text line)
 plain_line line none None lines = ap (λ o. read_as line (opened o) ∷ read_from (stopped_by (read_as line (opened o))) lines) none
 plain_line line none (Some word) lines =
     not_resuming line word lines (is_resuming word line) (resumes_not (codes "::") (from_text line) (word ++ codes "::") none)
+
+-- ---- a text of one line
+
+some_line : (ends : Bool) (b : ℕ) (lines : List (List ℕ)) → (if ends then [] ∷ lines else onto_first b lines) ≡ [] → ⊥
+some_line true b lines is = cc
+some_line false b [] is = cc
+some_line false b (line ∷ lines) is = cc
+
+no_lines : (text : List ℕ) → lines_of text ≡ [] → text ≡ []
+no_lines [] is = refl
+no_lines (b ∷ text) is = absurd (some_line (b == newline) b (lines_of text) is)
+
+same_first : (x y : List ℕ) (xs ys : List (List ℕ)) → x ∷ xs ≡ y ∷ ys → x ≡ y
+same_first x y xs ys is = cc
+
+same_others : (x y : List ℕ) (xs ys : List (List ℕ)) → x ∷ xs ≡ y ∷ ys → xs ≡ ys
+same_others x y xs ys is = cc
+
+-- nothing follows its first line
+pub one_line : (text first rest line : List ℕ) → lines_of text ≡ first ∷ lines_of rest → lines_of text ≡ line ∷ [] → (first ≡ line) × (rest ≡ [])
+one_line text first rest line cut is = (
+  same_first first line (lines_of rest) [] (sym cut ∙ is),
+  no_lines rest (same_others first line (lines_of rest) [] (sym cut ∙ is)),
+)
+
+pub is_set : (c d : Bool) → d ≡ not c → d ≡ false → c ≡ true
+is_set true d is unset = refl
+is_set false d is unset = absurd (true≢false (sym is ∙ unset))
 
 -- ---- one line more
 

@@ -1,8 +1,9 @@
 -- What is shown of the logs of steps: what their programs printed.
-use Rattle.std.specs.Prelude.{◌≡◌, ℕ, ◌==◌, if◌then◌else◌, List, [], ◌∷◌, ◌++◌, flat_map, map, codes, string_bytes, Option, Some, None}
+use Rattle.std.specs.Prelude.{◌≡◌, ℕ, Bool, is_some, ◌==◌, if◌then◌else◌, List, [], ◌∷◌, ◌++◌, flat_map, map, codes, string_bytes, Option, Some, None}
 use Rattle.std.specs.Str.{is_utf8}
 use Rattle.flow_commands.specs.CommandTexts.{commands, read_from}
 use Rattle.flow_commands.specs.Shown.{masks_added, shown}
+use Rattle.flow_commands.specs.Splits.{after_front, from_text}
 use Rattle.flow_commands.specs.declared.line.Line.{Line}
 use Rattle.flow_commands.specs.declared.line.Line.TheVariants.{Plain}
 use Rattle.flow_commands.specs.declared.logs.LogTeller.{LogTeller}
@@ -59,6 +60,10 @@ logs_text given added (log ∷ logs) =
     ++ logs_text given (added ++ of_leg log.0 (log_told (leg_masks given added log.0) log.1).1) logs
 
 -- ---- what the code answers on the way
+
+-- A line begins with two colons, behind spaces and tabs, as each command and each end of `stop-commands` does.
+abbrev pub has_colons : List ℕ → Bool
+has_colons line = is_some (after_front (codes "::") (from_text line))
 
 -- A line is no command, and ends no `stop-commands`, wherever it stands.
 abbrev pub IsPlain : List ℕ → Type 0

@@ -1,8 +1,8 @@
 //! What is shown of the logs of steps, line by line: what their programs printed.
 
-ghost use Rattle.std.specs.Prelude.{◌≡◌, ◌<◌, [], ◌∷◌, ◌++◌, codes, ℕ, IfOk, IfSome, IsTrue, length, List, None, OnOk, string_bytes};
+ghost use Rattle.std.specs.Prelude.{◌≡◌, ◌<◌, [], ◌∷◌, ◌++◌, codes, ℕ, IfOk, IfSome, IsTrue, length, List, None, not, OnOk, string_bytes};
 ghost use Rattle.flow_model.specs.Lines.{lines_of};
-ghost use Rattle.flow_commands.specs.Logs.{IsPlain, lines_text, told_with};
+ghost use Rattle.flow_commands.specs.Logs.{IsPlain, has_colons, lines_text, told_with};
 ghost use Rattle.flow_commands.specs.Mask.{masked};
 ghost use Rattle.flow_commands.specs.Shown.{line_shown as line_shown_of, masked_line};
 
@@ -28,7 +28,8 @@ pub struct LogTeller {
 
 /// Whether a line is no command, and ends no `stop-commands`, wherever it stands.
 fn is_plain(line: &str) -> bool
-    ensures { IsTrue result → IsPlain line.now }
+    ensures plain { IsTrue result → IsPlain line.now }
+    ensures colons { result ≡ not (has_colons line.now) }
 {
     match after_front(from_text(line), "::") {
         Some(_) => false,
@@ -36,10 +37,13 @@ fn is_plain(line: &str) -> bool
     }
 }
 
-/// The line that a text is, without its newline, if it is one line and no command, and ends no `stop-commands`.
+/// The line that a text is, without its newline, if it is one line that does not begin with `::`: no command, and no end of
+/// `stop-commands`.
 pub fn plain_line(text: &str) -> Option<&str>
     ensures line { IfSome result (λ line. lines_of text.now ≡ line.now ∷ []) }
     ensures plain { IfSome result (λ line. IsPlain line.now) }
+    ensures none { result ≡ None → (line : List ℕ) → lines_of text.now ≡ line ∷ []
+        → IsTrue (has_colons line) }
 {
     if text.is_empty() {
         return None;
