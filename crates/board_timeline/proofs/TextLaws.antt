@@ -5,9 +5,9 @@ use Rattle.std.specs.List.{flat_map}
 use Rattle.board_timeline.proofs.ReadingLaws.{escaped_texts_are_read}
 use Rattle.board_timeline.specs.Escaped.{escaped, shown_text}
 use Rattle.board_timeline.specs.Looks.{font_class, look_class}
-use Rattle.board_timeline.specs.Picture.{bar_begin, begin, end, label_begin, place_text, shape_text, size_text, style_text, tag_text}
+use Rattle.board_timeline.specs.Picture.{bar_begin, begin, end, label_begin, picture, place_text, shape_text, size_text, style_text, tag_text}
 use Rattle.board_timeline.specs.Reading.{read_words}
-use Rattle.board_timeline.specs.Texts.{are_tags, HasTexts, PicturesHaveTheirTexts, shapes_texts}
+use Rattle.board_timeline.specs.Texts.{are_tags, HasTexts, HasTextsOf, shapes_texts}
 use Rattle.board_timeline.specs.declared.shape.Font.{Font}
 use Rattle.board_timeline.specs.declared.shape.Frame.{Frame}
 use Rattle.board_timeline.specs.declared.shape.ShapeKind.{ShapeKind}
@@ -175,7 +175,7 @@ shapes_have (shape ∷ shapes) rest has =
     subst (λ (text : List ℕ). HasTexts (shapes_texts (shape ∷ shapes)) text) (sym (append_assoc (shape_text shape) (flat_map shape_text shapes) rest))
     (shape_has shape (shapes_texts shapes) (flat_map shape_text shapes ++ rest) (shapes_have shapes rest has))
 
-pub pictures_have_their_texts : PicturesHaveTheirTexts
+pub pictures_have_their_texts : (width height : ℕ) (shapes : List Shape) → HasTextsOf width height shapes (picture width height shapes)
 pictures_have_their_texts width height shapes = record {
   body = flat_map shape_text shapes ++ codes "</svg>\n";
   whole = append_assoc (tag_text width height ++ style_text) (flat_map shape_text shapes) (codes "</svg>\n");

@@ -1,7 +1,7 @@
 -- The texts of a picture: those of its bars and labels, which are all that stands between its tags.
 use Rattle.std.specs.Prelude.{◌≡◌, ◌==◌, ◌++◌, ℕ, Bool, true, false, if◌then◌else◌, List, [], ◌∷◌, map, Some}
 use Rattle.board_timeline.specs.Escaped.{shown_text}
-use Rattle.board_timeline.specs.Picture.{picture, style_text, tag_text}
+use Rattle.board_timeline.specs.Picture.{style_text, tag_text}
 use Rattle.board_timeline.specs.Reading.{read_words}
 use Rattle.board_timeline.specs.declared.shape.Shape.{Shape}
 
@@ -41,6 +41,3 @@ pub record HasTextsOf (width height : ℕ) (shapes : List Shape) (text : List �
   pub body : List ℕ
   pub whole : text ≡ (tag_text width height ++ style_text) ++ body
   pub texts : HasTexts (shapes_texts shapes) body
-
-abbrev pub PicturesHaveTheirTexts : Type 0
-PicturesHaveTheirTexts = (width height : ℕ) (shapes : List Shape) → HasTextsOf width height shapes (picture width height shapes)

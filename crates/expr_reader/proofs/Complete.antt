@@ -2,8 +2,8 @@
 use Rattle.std.proofs.Common.{◌≡◌, ℕ, ◌+◌, ◌≤◌, true, false, Result, Ok, Err, List, [], ◌∷◌, ◌++◌, refl, sym, ap, ◌∙◌, append_assoc, append-nil, arith}
 use Rattle.std.proofs.lemmas.Bool.{cond-true, cond-false, le-ltb}
 use Rattle.expr_reader.specs.Expr.{Expr, Exprs, literal, context, call, group, property, index, wildcard, opposite, relation, equality, both, either, none, more, exprs_of, count, depth, deepest}
-use Rattle.expr_reader.specs.Grammar.{Token, constant, root, name, relational, equational, mark, tokens, preceded, level, FormedBy, AllFormedBy, Shaped, Formed}
-use Rattle.expr_reader.specs.Machine.{Part, either_of, both_of, equality_of, relation_of, not_of, group_of, index_of, call_of, State, want, have, Held, binding, completed, both_more, either_more, have_made, end_argument, end_text, Limits, limits, no_limits, node, called_with, close, end_round, end_index, run, finish, parse}
+use Rattle.expr_reader.specs.Grammar.{Token, constant, root, name, relational, equational, mark, tokens, preceded, level, any_count, FormedBy, AllFormedBy, Shaped, Formed}
+use Rattle.expr_reader.specs.Machine.{Part, either_of, both_of, equality_of, relation_of, not_of, group_of, index_of, call_of, State, want, have, Held, binding, completed, both_more, either_more, have_made, end_argument, end_text, Limits, limits, node, called_with, close, end_round, end_index, run, finish, parse}
 use Rattle.expr_reader.specs.Outcome.{◌>>=◌}
 use Rattle.expr_reader.specs.declared.fault.Fault.{Fault}
 use Rattle.expr_reader.specs.declared.fault.Fault.TheVariants.{ArgumentCount, TooDeep}
@@ -256,6 +256,10 @@ module _ (lim : Limits) (most : ℕ) (allows : (n : ℕ) → n ≤ most → lim.
 -- The tree of an expression's tokens.
 pub parse_again : (t : Expr) → Shaped t → depth t ≤ 50 → parse limits (tokens t) ≡ Ok t
 parse_again t shaped deep = parse_formed limits 50 (λ n h. le-ltb 50 n h) t shaped deep
+
+-- No limits.
+abbrev pub no_limits : Limits
+no_limits = record { too_deep = λ n. false; counts = any_count }
 
 -- Without limits the tree of any tree's tokens.
 pub parse_free : (t : Expr) → Formed t → parse no_limits (tokens t) ≡ Ok t

@@ -8,7 +8,7 @@ use Rattle.expr_reader.specs.Expr.{null, truth, whole, quoted, Expr, group, prop
 use Rattle.expr_reader.specs.Grammar.{Token, constant, root, callee, name, relational, equational, mark, tokens, Shaped}
 use Rattle.expr_reader.specs.Lexer.{Lexed, next_at, next}
 use Rattle.expr_reader.specs.Wrong.{Wrong}
-use Rattle.expr_reader.specs.Machine.{Part, equality_of, relation_of, group_of, index_of, call_of, State, want, have, dotted, called, starred, is_dotted, both_more, either_more, have_made, end_argument, star_index, Limits, limits, no_limits, node, called_with, close_relation, close_equality, close_both, close_either, end_round, end_index, end_empty, have_mark, have_step, step, run, finish, parse}
+use Rattle.expr_reader.specs.Machine.{Part, equality_of, relation_of, group_of, index_of, call_of, State, want, have, dotted, called, starred, is_dotted, both_more, either_more, have_made, end_argument, star_index, Limits, limits, node, called_with, close_relation, close_equality, close_both, close_either, end_round, end_index, end_empty, have_mark, have_step, step, run, finish, parse}
 use Rattle.expr_reader.specs.Outcome.{◌>>=◌}
 use Rattle.expr_reader.specs.Reading.{Failure, placed, after_step, after_token, reads}
 use Rattle.expr_reader.specs.Spelling.{SpellsToken, Begins, Lexes}
@@ -19,7 +19,7 @@ use Rattle.expr_reader.specs.declared.token.Mark.TheVariants.{Open, Close, OpenI
 use Rattle.expr_reader.specs.declared.tree.Equality.TheVariants.{Equal, NotEqual}
 use Rattle.expr_reader.specs.declared.tree.Wildcard.TheVariants.{Dotted, Bracketed}
 use Rattle.expr_reader.specs.declared.tree.Relation.TheVariants.{Less, AtMost, Greater, AtLeast}
-use Rattle.expr_reader.proofs.Complete.{parse_again, parse_free}
+use Rattle.expr_reader.proofs.Complete.{no_limits, parse_again, parse_free}
 use Rattle.expr_reader.proofs.Fitting.{ends_last, next_fits}
 use Rattle.expr_reader.proofs.Lexing.{next_again, next_none, Comes, next_comes, skipped, blank_skipped}
 use Rattle.expr_reader.proofs.Runs.{spans}

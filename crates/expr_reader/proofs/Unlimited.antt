@@ -2,7 +2,7 @@
 use Rattle.std.proofs.Common.{◌≡◌, ℕ, Bool, true, false, cond, nat_lt, nat_le, Result, Ok, Err, List, [], ◌∷◌, ◌++◌, refl, sym, ap, subst}
 use Rattle.expr_reader.specs.Expr.{Expr, Exprs, call, group, property, index, wildcard, exprs_of, count, depth}
 use Rattle.expr_reader.specs.Grammar.{Token, name, relational, equational, mark, takes}
-use Rattle.expr_reader.specs.Machine.{Part, equality_of, relation_of, group_of, index_of, call_of, State, want, have, dotted, called, starred, Held, binding, completed, both_more, either_more, have_made, end_argument, end_text, called_step, limits, no_limits, node, called_with, close, end_round, end_index, end_empty, want_mark, have_mark, want_step, have_step, dotted_step, starred_step, step, run, finish}
+use Rattle.expr_reader.specs.Machine.{Part, equality_of, relation_of, group_of, index_of, call_of, State, want, have, dotted, called, starred, Held, binding, completed, both_more, either_more, have_made, end_argument, end_text, called_step, limits, node, called_with, close, end_round, end_index, end_empty, want_mark, have_mark, want_step, have_step, dotted_step, starred_step, step, run, finish}
 use Rattle.expr_reader.specs.Outcome.{◌>>=◌}
 use Rattle.expr_reader.specs.declared.fault.Fault.{Fault}
 use Rattle.expr_reader.specs.declared.fault.Fault.TheVariants.{ArgumentCount, TooDeep}
@@ -10,6 +10,7 @@ use Rattle.expr_reader.specs.declared.token.Mark.{Mark}
 use Rattle.expr_reader.specs.declared.token.Mark.TheVariants.{Close, CloseIndex, Comma, Star, Both, Either}
 use Rattle.expr_reader.specs.declared.tree.Function.{Function}
 use Rattle.expr_reader.specs.declared.tree.Wildcard.TheVariants.{Dotted, Bracketed}
+use Rattle.expr_reader.proofs.Complete.{no_limits}
 use Rattle.expr_reader.proofs.Runs.{if_holds}
 
 -- Two outcomes are the same, or the first one met a limit.

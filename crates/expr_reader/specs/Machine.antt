@@ -1,7 +1,7 @@
 -- How tokens make a tree, from the left, with a stack of what is open, within limits or without.
 use Rattle.std.specs.Prelude.{ℕ, nat_le, nat_lt, Bool, true, false, if◌then◌else◌, Result, Ok, Err, List, [], ◌∷◌, ◌++◌}
 use Rattle.expr_reader.specs.Expr.{Expr, Exprs, literal, context, call, group, property, index, wildcard, opposite, relation, equality, both, either, exprs_of, count, depth}
-use Rattle.expr_reader.specs.Grammar.{Token, constant, root, callee, name, relational, equational, mark, takes, any_count}
+use Rattle.expr_reader.specs.Grammar.{Token, constant, root, callee, name, relational, equational, mark, takes}
 use Rattle.expr_reader.specs.Outcome.{◌>>=◌}
 use Rattle.expr_reader.specs.Sizes.{greatest_depth}
 use Rattle.expr_reader.specs.declared.fault.Fault.{Fault}
@@ -117,10 +117,6 @@ pub record Limits : Type 0 where
 -- The limits of an expression.
 abbrev pub limits : Limits
 limits = record { too_deep = nat_lt greatest_depth; counts = takes }
-
--- No limits.
-abbrev pub no_limits : Limits
-no_limits = record { too_deep = λ n. false; counts = any_count }
 
 module _ (lim : Limits) where
   -- The node, where it is not too deep.

@@ -16,7 +16,12 @@ use Rattle.serde_json.specs.Read.{of_json, of_items, of_members, read}
 use Rattle.serde_json.specs.View.{items_of}
 use Rattle.plan_documents.specs.Fields.{put_each}
 use Rattle.plan_text.specs.Outline.{StandsFor}
-use Rattle.plan_text.specs.Spelled.{Spells, SpellEach, SpellMembers}
+use Rattle.plan_text.specs.Spelled.{Spells, SpellMembers}
+
+-- The first tokens are these parts in turn, and the rest follows.
+abbrev pub SpellEach : ℕ → List Token → List Data → List Token → Type 0
+SpellEach levels ts [] rest = ts ≡ rest
+SpellEach levels ts (d ∷ ds) rest = (after : List Token) × Spells levels ts d after × SpellEach levels after ds rest
 
 -- ---- one part
 

@@ -19,11 +19,6 @@ pub record Spells (levels : ℕ) (ts : List Token) (d : Data) (rest : List Token
 abbrev pub SpellsPart : ℕ → FoundToken → List Token → Data → List Token → Type 0
 SpellsPart levels found ts d rest = Spells levels (token_of found ∷ ts) d rest
 
--- The first tokens are these parts in turn, and the rest follows.
-abbrev pub SpellEach : ℕ → List Token → List Data → List Token → Type 0
-SpellEach levels ts [] rest = ts ≡ rest
-SpellEach levels ts (d ∷ ds) rest = (after : List Token) × Spells levels ts d after × SpellEach levels after ds rest
-
 -- The first tokens are these keys in turn, each with its part, and the rest follows.
 abbrev pub SpellMembers : ℕ → List Token → List (List ℕ × Data) → List Token → Type 0
 SpellMembers levels ts [] rest = ts ≡ rest

@@ -1,6 +1,6 @@
 use Rattle.std.proofs.Common.{map, length}
 use Rattle.serde_json.specs.View.{view}
-use Rattle.plan_text.specs.Spelled.{SpellEach}
+use Rattle.plan_text.proofs.SpelledLaws.{SpellEach}
 use Rattle.plan_text.proofs.tokens.list_tree.Given as goal
 
 abbrev pub invariant-loop-alloc : goal.invariant-loop-alloc

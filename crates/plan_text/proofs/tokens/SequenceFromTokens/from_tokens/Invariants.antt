@@ -1,5 +1,5 @@
 use Rattle.std.proofs.Common.{map, length}
-use Rattle.plan_text.specs.Spelled.{SpellEach}
+use Rattle.plan_text.proofs.SpelledLaws.{SpellEach}
 use Rattle.plan_text.proofs.tokens.SequenceFromTokens.from_tokens.Given as goal
 
 abbrev pub invariant-loop-alloc : goal.invariant-loop-alloc
