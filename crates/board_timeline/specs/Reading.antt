@@ -7,9 +7,9 @@ use Rattle.board_timeline.specs.Escaped.{escaped, is_forbidden, seen_after, show
 
 -- Where a reader is: in plain text, of whose last bytes so many are those of a character that XML forbids, or in the name of a
 -- reference, of which these bytes were read.
-pub data Place : Type 0 where
-  plain : ℕ → Place
-  reference : List ℕ → Place
+pub data MarkupPlace : Type 0 where
+  plain : ℕ → MarkupPlace
+  reference : List ℕ → MarkupPlace
 
 -- The text up to the next tag, and what stands from there on.
 abbrev pub Read : Type 0
@@ -36,7 +36,7 @@ onto_named (Some b) read = onto (b ∷ []) read
 
 -- A text up to the tag that follows it. Between tags a reference by name is the character that it names, and each other byte
 -- stands for itself.
-abbrev pub read_text : Place → List ℕ → Read
+abbrev pub read_text : MarkupPlace → List ℕ → Read
 read_text place [] = None
 read_text (plain seen) (b ∷ bs) =
     if b == 60 then Some ([], b ∷ bs)

@@ -6,10 +6,10 @@ use Rattle.std.specs.List.{list_all}
 use Rattle.command_graph.specs.Quoted.{quoted, shown_text}
 
 -- Where a reader is in a string: in its plain text, after a backslash, or before the letters that an ampersand still wants.
-pub data Place : Type 0 where
-  plain : Place
-  escape : Place
-  reference : List ℕ → Place
+pub data StringPlace : Type 0 where
+  plain : StringPlace
+  escape : StringPlace
+  reference : List ℕ → StringPlace
 
 -- The text of a string, and what stands after it.
 abbrev pub Read : Type 0
@@ -22,7 +22,7 @@ onto bytes (Some read) = Some (bytes ++ read.0, read.1)
 
 -- A string from after its first quote on. Between the quotes an escaped quote is a quote, an escaped backslash a backslash,
 -- an escaped n a new line, an escaped end of line nothing, `&amp;` an ampersand, and each other byte stands for itself.
-abbrev pub read_string : Place → List ℕ → Read
+abbrev pub read_string : StringPlace → List ℕ → Read
 read_string place [] = None
 read_string plain (b ∷ bs) =
     if b == 34 then Some ([], bs)

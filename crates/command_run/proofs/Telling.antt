@@ -10,7 +10,7 @@ use Rattle.command_io.specs.Stream.{Stream, IsCutOff, IsKept, IsWritten, Puts}
 use Rattle.flow_commands.specs.Logs.{Log, logs_text}
 use Rattle.plan_text.specs.Record.{record_text}
 use Rattle.command_run.specs.PlanMasks.{plan_masks}
-use Rattle.command_run.specs.RecordFile.{Keeping, Kept, Writes}
+use Rattle.command_run.specs.RecordFile.{Keeping, RecordKept, Writes}
 use Rattle.command_run.specs.Run.{PutsPlayed}
 use Rattle.command_run.specs.StepLogs.{AreAdded, AreLogsOf, Gives, IsBegun, PutsLog, PutsLogs, PutsShown, PutsText, ShowsLog, ShowsLogs, Written, files_of, in_folder, is_whole, started_step}
 use Rattle.step_host.specs.Replay.{recorded}
@@ -290,6 +290,6 @@ played_begun gives p es lines a b told e (Err e') shown is failed = record {
 played_begun gives p es lines a b told e (Ok whole) shown is failed = let no : false ≡ true = failed in absurd (cc)
 
 -- what is kept of entries is kept of the same entries
-pub kept_of : (writes : Writes) (name : Option (List ℕ)) (p : Plan) (out : Stream) (kept : Kept) (entries es : List Entry) → entries ≡ es
+pub kept_of : (writes : Writes) (name : Option (List ℕ)) (p : Plan) (out : Stream) (kept : RecordKept) (entries es : List Entry) → entries ≡ es
     → Keeping writes name (record_text p entries) out kept → Keeping writes name (record_text p es) out kept
 kept_of writes name p out kept entries es same h = subst (λ (l : List Entry). Keeping writes name (record_text p l) out kept) same h

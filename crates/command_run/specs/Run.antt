@@ -17,7 +17,7 @@ use Rattle.plan_text.specs.Load.{load}
 use Rattle.plan_text.specs.declared.fault.LoadFault.{LoadFault}
 use Rattle.plan_text.specs.Record.{record_text}
 use Rattle.command_run.specs.Playing.{IsPlayed, Leaves}
-use Rattle.command_run.specs.RecordFile.{Kept}
+use Rattle.command_run.specs.RecordFile.{RecordKept}
 use Rattle.command_run.specs.RunLines.{run_lines}
 use Rattle.command_run.specs.StepLogs.{Files, Gives, PutsText, ShowsLogs, Written, in_folder, is_whole}
 use Rattle.command_run.specs.Stubs.{Stubs, file_stubs}
@@ -53,14 +53,14 @@ pub record IsRunText (gives : Gives) (whole : Bool) (plan : Plan) (history : Lis
 
 -- What keeping the text of a record did, where `out` showed this.
 abbrev pub Keeps : Type 1
-Keeps = List ℕ → Stream → Kept → Type 0
+Keeps = List ℕ → Stream → RecordKept → Type 0
 
 -- The line of an error on err, and its status.
 abbrev pub SaysError : CommandError → Stream → Stream → ℕ → Type 0
 SaysError error err err' status = Says err err' (line error) × (status ≡ error_status error)
 
 -- What is told after the text: why the play was stopped; else why the record could not be written, or nothing.
-abbrev pub Finishes : Option PlayStop → Kept → ℕ → Stream → Stream → ℕ → Type 0
+abbrev pub Finishes : Option PlayStop → RecordKept → ℕ → Stream → Stream → ℕ → Type 0
 Finishes (Some stop) kept done err err' status = SaysStop stop err err' status
 Finishes None (Ok true) done err err' status = IsKept err err' × (status ≡ done)
 Finishes None (Ok false) done err err' status = SaysError Io err err' status
@@ -68,13 +68,13 @@ Finishes None (Err memory) done err err' status = SaysError Memory err err' stat
 
 -- What is told of a text that was written so: what follows it where all of it stands on out; that a write failed; or that there was
 -- no memory for what follows a beginning of it.
-abbrev pub TellsWritten : Written → Option PlayStop → Kept → ℕ → Stream → Stream → ℕ → Type 0
+abbrev pub TellsWritten : Written → Option PlayStop → RecordKept → ℕ → Stream → Stream → ℕ → Type 0
 TellsWritten (Ok true) stop kept done err err' status = Finishes stop kept done err err' status
 TellsWritten (Ok false) stop kept done err err' status = SaysError Io err err' status
 TellsWritten (Err memory) stop kept done err err' status = SaysError Memory err err' status
 
 -- What is told of a history.
-pub record TellsHistory (gives : Gives) (plan : Plan) (history : List Entry) (stop : Option PlayStop) (kept : Kept) (out out' err err' : Stream) (status : ℕ) : Type 0 where
+pub record TellsHistory (gives : Gives) (plan : Plan) (history : List Entry) (stop : Option PlayStop) (kept : RecordKept) (out out' err err' : Stream) (status : ℕ) : Type 0 where
   pub text : List ℕ
   pub done : ℕ
   pub written : Written
@@ -89,7 +89,7 @@ TellsMemory = TellsError Memory
 -- What is told of what was played, and kept of it: the text of the history, or that there is no memory for what ends it; and in both
 -- cases the record is written when `out` already shows what it shows in the end.
 pub record TellsPlaying (keep : Keeps) (gives : Gives) (plan : Plan) (history : List Entry) (stop : Option PlayStop) (out out' err err' : Stream) (status : ℕ) : Type 0 where
-  pub kept : Kept
+  pub kept : RecordKept
   pub keeping : keep (record_text plan history) out' kept
   pub told : TellsHistory gives plan history stop kept out out' err err' status ⊎ TellsMemory out out' err err' status
 

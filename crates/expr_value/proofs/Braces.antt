@@ -19,7 +19,7 @@ use Rattle.expr_value.specs.Convert.{text_of}
 use Rattle.expr_value.specs.Format.{formatted, opened, numbered, closed, after_byte, after_argument}
 use Rattle.expr_value.specs.Formatting.{is_plain}
 use Rattle.expr_value.specs.Functions.{text_of_value}
-use Rattle.expr_value.specs.Kind.{Kind, kind_of}
+use Rattle.expr_value.specs.PlainKind.{PlainKind, kind_of}
 use Rattle.flow_model.specs.Plain.{Plain}
 use Rattle.expr_value.proofs.JsonNumbers.{own_digits}
 use Rattle.expr_value.proofs.Runs.{if_holds, spans, first_fails, all_parts}
@@ -179,7 +179,7 @@ pub rest_shorter : (p : ℕ → Bool) (text rest : List ℕ) → rest ≡ drop (
 rest_shorter p text rest back = ap length back ∙ length-drop (prefix_len p text) text
 
 -- The value of the text from an argument's number on, where that argument is there.
-pub argument_found : (arguments : List Plain) (n : ℕ) (kind : Kind) (o : Option (List ℕ)) → Some kind ≡ option_map kind_of (slice_get arguments n) → after_argument (slice_get (map text_of_value arguments) n) o ≡ option_map (λ (w : List ℕ). text_of kind ++ w) o
+pub argument_found : (arguments : List Plain) (n : ℕ) (kind : PlainKind) (o : Option (List ℕ)) → Some kind ≡ option_map kind_of (slice_get arguments n) → after_argument (slice_get (map text_of_value arguments) n) o ≡ option_map (λ (w : List ℕ). text_of kind ++ w) o
 argument_found arguments n kind o found = ap (λ (a : Option (List ℕ)). after_argument a o) (argument_text arguments n ∙ ap (option_map text_of) (sym found))
 
 -- Where it is not there.

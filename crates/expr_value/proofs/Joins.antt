@@ -10,7 +10,7 @@ use Rattle.std.specs.List.{join_by, flat_map}
 use Rattle.expr_value.specs.Answer.{Gives}
 use Rattle.expr_value.specs.Limit.{limited}
 use Rattle.expr_value.specs.Functions.{join}
-use Rattle.expr_value.specs.Kind.{Kind, kind_of}
+use Rattle.expr_value.specs.PlainKind.{PlainKind, kind_of}
 use Rattle.flow_model.proofs.Conversions.{drop-next}
 use Rattle.flow_model.specs.Plain.{Plain, list, items_of}
 use Rattle.flow_model.specs.Value.{view, views}
@@ -32,13 +32,13 @@ pub grown_item : (b : Option (List ℕ)) (separator : List ℕ) (first : Bool) (
 grown_item b separator first v vs = grown_grown b (item_text separator first (text_of_value v)) (items_text separator false vs) ∙ ap (grown b) (sym (items_step separator first v vs))
 
 -- One item more, and those of what is left.
-pub joined_more : (nodes : List Node) (i : ℕ) (node : Node) (held next : Option (List ℕ)) (separator : List ℕ) (first : Bool) (kind : Kind) (all : Option (List ℕ))
+pub joined_more : (nodes : List Node) (i : ℕ) (node : Node) (held next : Option (List ℕ)) (separator : List ℕ) (first : Bool) (kind : PlainKind) (all : Option (List ℕ))
     → i < length nodes → node ≡ get_or nodes i node → next ≡ grown held (item_text separator first (text_of kind)) → kind ≡ kind_of (view node)
     → grown held (items_text separator first (views (drop i nodes))) ≡ all → grown next (items_text separator false (views (drop (i + 1) nodes))) ≡ all
 joined_more nodes i node held next separator first kind all inside here grew is so_far =
     let left = views (drop (i + 1) nodes) in
     ap (λ (text : Option (List ℕ)). grown text (items_text separator false left)) grew
-    ∙ ap (λ (k : Kind). grown (grown held (item_text separator first (text_of k))) (items_text separator false left)) is
+    ∙ ap (λ (k : PlainKind). grown (grown held (item_text separator first (text_of k))) (items_text separator false left)) is
     ∙ grown_item held separator first (view node) left
     ∙ ap (λ (ns : List Node). grown held (items_text separator first (views ns))) (sym (drop-next nodes i node inside here)) ∙ so_far
 

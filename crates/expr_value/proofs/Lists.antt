@@ -4,7 +4,7 @@ use Rattle.std.specs.Option.{option_map, option_or}
 use Rattle.std.specs.Cmp.Lexicographic.{slice_cmp}
 use Rattle.std.specs.Ordering.{nat_cmp, is_eq}
 use Rattle.expr_value.specs.Dereference.{first_at, is_same, is_alike, property_in}
-use Rattle.expr_value.specs.Kind.{items}
+use Rattle.expr_value.specs.PlainKind.{items}
 use Rattle.flow_model.specs.Mapping.{value_at}
 use Rattle.flow_model.specs.Plain as plain
 use Rattle.flow_model.specs.Value.{view, viewed}

@@ -14,7 +14,7 @@ use Rattle.expr_reader.specs.declared.tree.Relation.{Relation}
 use Rattle.expr_reader.specs.declared.tree.Relation.TheVariants.{Less, AtMost, Greater, AtLeast}
 use Rattle.expr_value.specs.Compare.{text_order, number_order, order_of_numbers, order_by_number, passes, equals, equality_of, admits, related}
 use Rattle.expr_value.specs.Convert.{number_of}
-use Rattle.expr_value.specs.Kind.{Kind, null, truth, whole, text, list, map}
+use Rattle.expr_value.specs.PlainKind.{PlainKind, null, truth, whole, text, list, map}
 use Rattle.expr_value.specs.Laws.{AreOpposite, mirror}
 use Rattle.expr_value.specs.Number.{is_integer, is_tail, in_range, number_of_parts, unsigned_number, with_sign, number_of_text}
 use Rattle.flow_model.specs.declared.reply.ValueFault.{ValueFault}
@@ -48,7 +48,7 @@ text_faults : (bytes : List ℕ) → OnlyNotWhole (number_of_text bytes)
 text_faults [] = tt
 text_faults (b ∷ bs) = one_of (b == 45) (with_sign negative (unsigned_number bs)) (with_sign pos (unsigned_number (b ∷ bs))) (unsigned_faults negative bs) (unsigned_faults pos (b ∷ bs))
 
-number_faults : (a : Kind) → OnlyNotWhole (number_of a)
+number_faults : (a : PlainKind) → OnlyNotWhole (number_of a)
 number_faults null = tt
 number_faults (truth b) = tt
 number_faults (whole z) = tt
@@ -96,7 +96,7 @@ numbers_reversed test other same (Ok m) (Err fault) h k = refl
 numbers_reversed test other same (Err fault) (Ok n) h k = refl
 numbers_reversed test other same (Err one) (Err two) h k = ap Err (h ∙ sym k)
 
-by_number : (test other : Ordering → Bool) → AreMirrored test other → (a b : Kind) → passes test (order_by_number a b) ≡ passes other (order_by_number b a)
+by_number : (test other : Ordering → Bool) → AreMirrored test other → (a b : PlainKind) → passes test (order_by_number a b) ≡ passes other (order_by_number b a)
 by_number test other same a b = numbers_reversed test other same (number_of a) (number_of b) (number_faults a) (number_faults b)
 
 by_text : (test other : Ordering → Bool) → AreMirrored test other → (a b : List ℕ) → test (text_order a b) ≡ other (text_order b a)
@@ -104,7 +104,7 @@ by_text test other same a b = test_reversed test other (text_order a b) (text_or
 
 -- ---- the laws
 
-pub equality_is_symmetric : (a b : Kind) → equals a b ≡ equals b a
+pub equality_is_symmetric : (a b : PlainKind) → equals a b ≡ equals b a
 equality_is_symmetric null null = refl
 equality_is_symmetric (truth a) (truth b) = ap Ok (test_reversed is_eq is_eq (bool_cmp a b) (bool_cmp b a) equal_reversed (bool_cmp_total.antisymm a b))
 equality_is_symmetric (whole a) (whole b) = ap Ok (test_reversed is_eq is_eq (int_cmp a b) (int_cmp b a) equal_reversed (int_cmp_total.antisymm a b))
@@ -117,10 +117,10 @@ opposite : (same : Result Bool ValueFault) → AreOpposite (equality_of Equal sa
 opposite (Ok same) = refl
 opposite (Err fault) = refl
 
-pub inequality_is_opposite : (a b : Kind) → AreOpposite (equality_of Equal (equals a b)) (equality_of NotEqual (equals a b))
+pub inequality_is_opposite : (a b : PlainKind) → AreOpposite (equality_of Equal (equals a b)) (equality_of NotEqual (equals a b))
 inequality_is_opposite a b = opposite (equals a b)
 
-pub relations_mirror : (r : Relation) (a b : Kind) → related r a b ≡ related (mirror r) b a
+pub relations_mirror : (r : Relation) (a b : PlainKind) → related r a b ≡ related (mirror r) b a
 relations_mirror r (text a) (text b) = ap Ok (by_text (admits r) (admits (mirror r)) (admits_reversed r) a b)
 relations_mirror r list list = refl
 relations_mirror r map map = refl

@@ -24,7 +24,7 @@ use Rattle.expr_value.specs.Evaluate.{Answer, Chain, constant_value, ended, begu
 use Rattle.expr_value.specs.Convert.{text_of, number_of as number_of_kind}
 use Rattle.expr_value.specs.Format.{formatted}
 use Rattle.expr_value.specs.Functions.{formatted_value, joined, pretty_text, text_of_value, called, with_one, with_two, format_of, join_of, status_of, to_json, from_json, whole_value, value_read}
-use Rattle.expr_value.specs.Kind.{Kind, kind_of, items, values}
+use Rattle.expr_value.specs.PlainKind.{PlainKind, kind_of, items, values}
 use Rattle.expr_value.specs.Limit.{limited, most_bytes}
 use Rattle.expr_value.specs.Ordered.{keys, HasOrderedKeys, ItemsHaveOrderedKeys, MembersHaveOrderedKeys, AreOrdered}
 use Rattle.expr_value.specs.declared.status.Status.{Status}
@@ -128,7 +128,7 @@ item_found_ordered : (number : Result (Option ℤ) ValueFault) (vs : List Plain)
 item_found_ordered (Ok number) vs h = item_at_ordered number vs h
 item_found_ordered (Err fault) vs h = tt
 
-index_ordered : (kind : Kind) (v : Plain) → HasOrderedKeys v → OrderedPlace (index_of kind v)
+index_ordered : (kind : PlainKind) (v : Plain) → HasOrderedKeys v → OrderedPlace (index_of kind v)
 index_ordered kind null h = tt
 index_ordered kind (truth b) h = tt
 index_ordered kind (whole z) h = tt
@@ -169,7 +169,7 @@ with_found_ordered (Ok o) (Ok vs) h k = cons_ordered o vs h k
 with_found_ordered (Ok o) (Err fault) h k = tt
 with_found_ordered (Err fault) places h k = tt
 
-index_each_ordered : (kind : Kind) (vs : List Plain) → OrderedList vs → OrderedPlaces (index_each kind vs)
+index_each_ordered : (kind : PlainKind) (vs : List Plain) → OrderedList vs → OrderedPlaces (index_each kind vs)
 index_each_ordered kind [] h = tt
 index_each_ordered kind (v ∷ vs) h = with_found_ordered (index_of kind v) (index_each kind vs) (index_ordered kind v h.0) (index_each_ordered kind vs h.1)
 
@@ -177,7 +177,7 @@ filtered_of_ordered : (places : Result (List Plain) ValueFault) → OrderedPlace
 filtered_of_ordered (Ok vs) h = h
 filtered_of_ordered (Err fault) h = tt
 
-index_found_ordered : (kind : Kind) (found : Found) → OrderedFound found → OrderedChain (index_found kind found)
+index_found_ordered : (kind : PlainKind) (found : Found) → OrderedFound found → OrderedChain (index_found kind found)
 index_found_ordered kind (one v) h = one_or_null_ordered (index_of kind v) (index_ordered kind v h)
 index_found_ordered kind (filtered vs) h = filtered_of_ordered (index_each kind vs) (index_each_ordered kind vs h)
 

@@ -7,7 +7,7 @@ use Rattle.std.specs.Bool.{Decides}
 use Rattle.std.specs.Prelude.{◌↔◌}
 use Rattle.std.specs.Str.Iter.{HasSubslice}
 use Rattle.expr_value.specs.Functions.{stands_in, contains, is_match}
-use Rattle.expr_value.specs.Kind.{Kind, kind_of}
+use Rattle.expr_value.specs.PlainKind.{PlainKind, kind_of}
 use Rattle.expr_value.specs.Searching.{contains_kind}
 use Rattle.expr_value.proofs.Lists.{items-again}
 use Rattle.flow_model.specs.Plain.{Plain, null, truth, whole, text, list, map, items_of}
@@ -69,5 +69,5 @@ contains_by_kind (list vs) x = refl
 contains_by_kind (map ms) x = refl
 
 -- In a list.
-pub contains_in_list : (v : Plain) (vs : List Plain) (kind : Kind) (b : Bool) → v ≡ list (items_of vs) → b ≡ list_any (is_match kind) vs → b ≡ contains_kind v kind
+pub contains_in_list : (v : Plain) (vs : List Plain) (kind : PlainKind) (b : Bool) → v ≡ list (items_of vs) → b ≡ list_any (is_match kind) vs → b ≡ contains_kind v kind
 contains_in_list v vs kind b same h = h ∙ ap (list_any (is_match kind)) (sym (items-again vs)) ∙ ap (λ (w : Plain). contains_kind w kind) (sym same)

@@ -9,7 +9,7 @@ use Rattle.expr_reader.specs.declared.tree.Equality.TheVariants.{Equal, NotEqual
 use Rattle.expr_reader.specs.declared.tree.Relation.{Relation}
 use Rattle.expr_reader.specs.declared.tree.Relation.TheVariants.{Less, AtMost, Greater, AtLeast}
 use Rattle.expr_value.specs.Convert.{number_of}
-use Rattle.expr_value.specs.Kind.{Kind, null, truth, whole, text, list, map}
+use Rattle.expr_value.specs.PlainKind.{PlainKind, null, truth, whole, text, list, map}
 use Rattle.flow_model.specs.declared.reply.ValueFault.{ValueFault}
 use Rattle.flow_model.specs.declared.reply.ValueFault.TheVariants.{NoIdentity}
 
@@ -31,7 +31,7 @@ order_of_numbers (Ok m) (Err fault) = Err fault
 order_of_numbers (Err fault) n = Err fault
 
 -- The order of two values by their numbers.
-abbrev pub order_by_number : Kind → Kind → Result (Option Ordering) ValueFault
+abbrev pub order_by_number : PlainKind → PlainKind → Result (Option Ordering) ValueFault
 order_by_number a b = order_of_numbers (number_of a) (number_of b)
 
 -- Whether an order that is known passes a test.
@@ -41,7 +41,7 @@ passes test (Ok (Some order)) = Ok (test order)
 passes test (Err fault) = Err fault
 
 -- a == b: texts ignoring case; lists and maps have no identity here; unlike kinds by number.
-abbrev pub equals : Kind → Kind → Result Bool ValueFault
+abbrev pub equals : PlainKind → PlainKind → Result Bool ValueFault
 equals null null = Ok true
 equals (truth a) (truth b) = Ok (is_eq (bool_cmp a b))
 equals (whole a) (whole b) = Ok (is_eq (int_cmp a b))
@@ -65,7 +65,7 @@ admits AtLeast order = is_ge order
 
 -- a < b and its like: texts by the bytes of their folds; no list and no map is related to its kind; else by
 -- number.
-abbrev pub related : Relation → Kind → Kind → Result Bool ValueFault
+abbrev pub related : Relation → PlainKind → PlainKind → Result Bool ValueFault
 related relation (text a) (text b) = Ok (admits relation (text_order a b))
 related relation list list = Ok false
 related relation map map = Ok false

@@ -7,7 +7,7 @@ use Rattle.std.specs.Option.{option_or}
 use Rattle.std.specs.Ordering.{nat_cmp, is_eq}
 use Rattle.expr_reader.specs.Fold.{fold}
 use Rattle.expr_value.specs.Convert.{text_of, number_of}
-use Rattle.expr_value.specs.Kind.{Kind, items, values}
+use Rattle.expr_value.specs.PlainKind.{PlainKind, items, values}
 use Rattle.flow_model.specs.Plain as plain
 use Rattle.flow_model.specs.declared.reply.ValueFault.{ValueFault}
 
@@ -60,7 +60,7 @@ item_found (Err fault) vs = Err fault
 
 -- What stands at an index in a value: in a list at its number, in a map at its text. Of other values it is not
 -- looked at.
-abbrev pub index_of : Kind → plain.Plain → Result (Option plain.Plain) ValueFault
+abbrev pub index_of : PlainKind → plain.Plain → Result (Option plain.Plain) ValueFault
 index_of index plain.null = Ok None
 index_of index (plain.truth b) = Ok None
 index_of index (plain.whole z) = Ok None
@@ -102,7 +102,7 @@ with_found (Ok v) (Err fault) = Err fault
 with_found (Err fault) vs = Err fault
 
 -- What stands at an index in each item that has it.
-abbrev pub index_each : Kind → List plain.Plain → Result (List plain.Plain) ValueFault
+abbrev pub index_each : PlainKind → List plain.Plain → Result (List plain.Plain) ValueFault
 index_each index [] = Ok []
 index_each index (v ∷ vs) = with_found (index_of index v) (index_each index vs)
 
@@ -112,7 +112,7 @@ filtered_of (Ok vs) = Ok (filtered vs)
 filtered_of (Err fault) = Err fault
 
 -- [index] of one value, or of each item that has it.
-abbrev pub index_found : Kind → Found → Result Found ValueFault
+abbrev pub index_found : PlainKind → Found → Result Found ValueFault
 index_found index (one v) = one_or_null (index_of index v)
 index_found index (filtered vs) = filtered_of (index_each index vs)
 

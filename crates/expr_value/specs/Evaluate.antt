@@ -10,7 +10,7 @@ use Rattle.expr_value.specs.Context.{Contexts, context_value}
 use Rattle.expr_value.specs.Convert.{truth_of}
 use Rattle.expr_value.specs.Dereference.{Found, one, outside, property_found, index_found, all_found}
 use Rattle.expr_value.specs.Functions.{called}
-use Rattle.expr_value.specs.Kind.{kind_of}
+use Rattle.expr_value.specs.PlainKind.{kind_of}
 use Rattle.expr_value.specs.Limit.{last_value}
 use Rattle.expr_value.specs.declared.status.Status.{Status}
 use Rattle.flow_model.specs.Plain as plain

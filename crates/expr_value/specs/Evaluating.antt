@@ -2,7 +2,7 @@
 use Rattle.std.specs.Prelude.{Bool, true, false, List}
 use Rattle.expr_value.specs.Compare.{equals, equality_of, related}
 use Rattle.expr_value.specs.Evaluate.{Answer, Chain, all_chain, begun, conjunction, disjunction, ended, opposite_value, property_chain, then_value, truth_answer}
-use Rattle.expr_value.specs.Kind.{Kind, kind_of}
+use Rattle.expr_value.specs.PlainKind.{PlainKind, kind_of}
 use Rattle.expr_value.specs.declared.evaluate.Last.{Last}
 use Rattle.expr_value.specs.declared.evaluate.Last.TheVariants.{Property, Contents, Group, Opposite}
 use Rattle.expr_value.specs.declared.evaluate.Test.{Test}
@@ -17,7 +17,7 @@ completed Group x = begun (ended x)
 completed Opposite x = begun (then_value (ended x) opposite_value)
 
 -- Whether two values pass a test, by what they are.
-abbrev pub test_kinds : Test → Kind → Kind → Answer
+abbrev pub test_kinds : Test → PlainKind → PlainKind → Answer
 test_kinds (Relation r) a b = truth_answer (related r a b)
 test_kinds (Equality q) a b = truth_answer (equality_of q (equals a b))
 

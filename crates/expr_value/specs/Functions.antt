@@ -13,7 +13,7 @@ use Rattle.expr_reader.specs.declared.tree.Function.TheVariants as name
 use Rattle.expr_value.specs.Compare.{equals}
 use Rattle.expr_value.specs.Convert.{text_of}
 use Rattle.expr_value.specs.Format.{formatted}
-use Rattle.expr_value.specs.Kind.{Kind, kind_of, is_collection, items}
+use Rattle.expr_value.specs.PlainKind.{PlainKind, kind_of, is_collection, items}
 use Rattle.expr_value.specs.Limit.{limited}
 use Rattle.expr_value.specs.declared.status.Status.{Status}
 use Rattle.expr_value.specs.declared.status.Status.TheVariants as status
@@ -31,7 +31,7 @@ stands_in part [] = length part == 0
 stands_in part (b ∷ bs) = starts_with nat_eq (b ∷ bs) part || stands_in part bs
 
 -- A test on two texts ignoring case, which fails where either value is a list or a map.
-abbrev pub folds_pass : (List ℕ → List ℕ → Bool) → Kind → Kind → Bool
+abbrev pub folds_pass : (List ℕ → List ℕ → Bool) → PlainKind → PlainKind → Bool
 folds_pass test a b = not (is_collection a || is_collection b) && test (fold (text_of a)) (fold (text_of b))
 
 -- It is known to be true.
@@ -40,7 +40,7 @@ is_true (Ok b) = b
 is_true (Err fault) = false
 
 -- An item equals a value; one for which == faults does not.
-abbrev pub is_match : Kind → Plain → Bool
+abbrev pub is_match : PlainKind → Plain → Bool
 is_match kind v = is_true (equals (kind_of v) kind)
 
 -- Some item of a list equals the value, or the value's text stands in a text.

@@ -15,12 +15,12 @@ pub mod Functions
 pub mod Joined
 pub mod Joining
 pub mod JsonNumber
-pub mod Kind
 pub mod Laws
 pub mod Limit
 pub mod Named
 pub mod Number
 pub mod Ordered
+pub mod PlainKind
 pub mod Searching
 pub mod Seen
 pub mod Stepping

@@ -2,7 +2,7 @@
 use Rattle.std.specs.Prelude.{ℕ, Bool, false, nat_eq, List}
 use Rattle.std.specs.List.{list_any, starts_with, ends_with}
 use Rattle.expr_value.specs.Functions.{stands_in, folds_pass, is_match, contains, begins_with, finishes_with}
-use Rattle.expr_value.specs.Kind.{Kind, kind_of, items}
+use Rattle.expr_value.specs.PlainKind.{PlainKind, kind_of, items}
 use Rattle.expr_value.specs.declared.search.SearchPlace.{SearchPlace}
 use Rattle.expr_value.specs.declared.search.SearchPlace.TheVariants.{Anywhere, Front, End}
 use Rattle.flow_model.specs.Plain.{Plain, null, truth, whole, text, list, map}
@@ -20,7 +20,7 @@ finds Front v x = begins_with v x
 finds End v x = finishes_with v x
 
 -- `contains`, of which only the kind of what is looked for counts.
-abbrev pub contains_kind : Plain → Kind → Bool
+abbrev pub contains_kind : Plain → PlainKind → Bool
 contains_kind null kind = folds_pass (stands_at Anywhere) (kind_of null) kind
 contains_kind (truth b) kind = folds_pass (stands_at Anywhere) (kind_of (truth b)) kind
 contains_kind (whole z) kind = folds_pass (stands_at Anywhere) (kind_of (whole z)) kind

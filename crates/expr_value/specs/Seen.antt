@@ -8,8 +8,8 @@ use Rattle.expr_reader.specs.View.{views}
 use Rattle.expr_reader.specs.declared.tree.Tree.{Tree}
 use Rattle.expr_value.specs.Context.{Contexts}
 use Rattle.expr_value.specs.Evaluate.{Answer, answers}
-use Rattle.expr_value.specs.Kind.{Kind, null, truth, whole, text, list}
-use Rattle.expr_value.specs.Kind as plain_kind
+use Rattle.expr_value.specs.PlainKind.{PlainKind, null, truth, whole, text, list}
+use Rattle.expr_value.specs.PlainKind as plain_kind
 use Rattle.expr_value.specs.declared.kind.ValueKind as lent
 use Rattle.expr_value.specs.declared.kind.ValueKind.TheVariants as variant
 use Rattle.expr_value.specs.Dereference as chain
@@ -24,7 +24,7 @@ use Rattle.flow_model.specs.Value.{view, viewed}
 use Rattle.flow_model.specs.declared.value.Node.{Node}
 
 -- A kind, its text as bytes.
-abbrev pub kind_seen : lent.ValueKind → Kind
+abbrev pub kind_seen : lent.ValueKind → PlainKind
 kind_seen variant.Null = null
 kind_seen (variant.Truth b) = truth b
 kind_seen (variant.Whole z) = whole z

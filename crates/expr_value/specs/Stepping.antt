@@ -2,7 +2,7 @@
 use Rattle.std.specs.Prelude.{ℕ, Option, Result, Ok, List}
 use Rattle.std.specs.List.{filter_map}
 use Rattle.expr_value.specs.Dereference.{Found, property_of, index_of, index_each, property_found, index_found}
-use Rattle.expr_value.specs.Kind.{Kind}
+use Rattle.expr_value.specs.PlainKind.{PlainKind}
 use Rattle.expr_value.specs.Seen.{kind_seen}
 use Rattle.expr_value.specs.declared.dereference.Step as lent
 use Rattle.expr_value.specs.declared.dereference.Step.TheVariants.{Property, Index}
@@ -12,7 +12,7 @@ use Rattle.flow_model.specs.declared.reply.ValueFault.{ValueFault}
 -- A step.
 pub data Step : Type 0 where
   at_name : List ℕ → Step
-  at_index : Kind → Step
+  at_index : PlainKind → Step
 
 -- A step, its text as bytes.
 abbrev pub step_seen : lent.Step → Step

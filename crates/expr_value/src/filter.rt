@@ -4,7 +4,7 @@ ghost use Rattle.std.specs.Prelude.{◌≡◌, ◌++◌, IfOk, Ok, OnOk};
 ghost use Rattle.std.specs.List.{flat_map};
 ghost use Rattle.expr_value.specs.Answer.{Gives};
 ghost use Rattle.expr_value.specs.Dereference.{contents, filtered, all_found as all_found_of};
-ghost use Rattle.expr_value.specs.Kind.{items as items_of_list, values as values_of};
+ghost use Rattle.expr_value.specs.PlainKind.{items as items_of_list, values as values_of};
 ghost use Rattle.expr_value.specs.Seen.{item_seen, items_seen, found_seen, members_seen};
 ghost use Rattle.flow_model.specs.Value.{view, views};
 

@@ -8,7 +8,7 @@ ghost use Rattle.expr_value.specs.Answer.{Gives};
 ghost use Rattle.expr_value.specs.Format.{formatted, opened, closed};
 ghost use Rattle.expr_value.specs.Formatting.{texts_of, is_plain as is_plain_byte, BeginsOther, Splits};
 ghost use Rattle.expr_value.specs.Functions.{formatted_value};
-ghost use Rattle.expr_value.specs.Kind.{kind_of};
+ghost use Rattle.expr_value.specs.PlainKind.{kind_of};
 ghost use Rattle.expr_value.specs.Seen.{kind_seen, item_seen};
 ghost use Rattle.flow_model.specs.Value.{view};
 

@@ -2,7 +2,7 @@
 
 ghost use Rattle.std.specs.Prelude.{◌≡◌, IfOk, Ok};
 ghost use Rattle.expr_value.specs.Answer.{Gives};
-ghost use Rattle.expr_value.specs.Kind.{kind_of as kind_of_value};
+ghost use Rattle.expr_value.specs.PlainKind.{kind_of as kind_of_value};
 ghost use Rattle.expr_value.specs.Seen.{kind_seen, item_seen, items_seen};
 ghost use Rattle.flow_model.specs.Value.{view, views};
 

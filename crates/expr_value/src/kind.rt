@@ -1,7 +1,7 @@
 //! What the conversions of a value look at.
 
 ghost use Rattle.std.specs.Prelude.{◌≡◌};
-ghost use Rattle.expr_value.specs.Kind.{kind_of as kind_of_value, is_collection as is_collection_of};
+ghost use Rattle.expr_value.specs.PlainKind.{kind_of as kind_of_value, is_collection as is_collection_of};
 ghost use Rattle.expr_value.specs.Seen.{kind_seen};
 ghost use Rattle.flow_model.specs.Value.{view};
 

@@ -3,7 +3,7 @@
 ghost use Rattle.std.specs.Prelude.{◌≡◌, IfOk, OnOk, string_bytes};
 ghost use Rattle.expr_value.specs.Bounded.{grown};
 ghost use Rattle.expr_value.specs.Convert.{text_of};
-ghost use Rattle.expr_value.specs.Kind.{kind_of as kind_of_value};
+ghost use Rattle.expr_value.specs.PlainKind.{kind_of as kind_of_value};
 ghost use Rattle.expr_value.specs.Seen.{kind_seen};
 
 use crate::bounded::Bounded;

@@ -3,7 +3,7 @@
 ghost use Rattle.std.specs.Prelude.{◌≡◌};
 ghost use Rattle.expr_value.specs.Compare.{equals as equals_of};
 ghost use Rattle.expr_value.specs.Convert.{truth_of as truth_of_kind};
-ghost use Rattle.expr_value.specs.Kind.{kind_of as kind_of_value};
+ghost use Rattle.expr_value.specs.PlainKind.{kind_of as kind_of_value};
 
 use crate::compare::equals;
 use crate::kind::kind_of;

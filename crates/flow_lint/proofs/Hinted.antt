@@ -8,7 +8,7 @@ use Rattle.serde_json.specs.Find.{get}
 use Rattle.flow_lint.specs.Hints.{AreAllHints, HasHints, HasNote, IsHinted, KeepsNotes, SaysIdle, SaysNeed, SaysUnknown}
 use Rattle.flow_lint.specs.Kinds.{IsNeed}
 use Rattle.flow_lint.specs.Nodes.{AreAll, place_of}
-use Rattle.flow_lint.specs.Places.{Place, ShowsNeed}
+use Rattle.flow_lint.specs.Places.{FilePlace, ShowsNeed}
 use Rattle.flow_lint.specs.declared.kind.NodeKind.TheVariants as kinds
 use Rattle.flow_lint.specs.declared.node.Node.{Node}
 use Rattle.flow_lint.specs.declared.note.Note.{Note}
@@ -26,7 +26,7 @@ pub note_kept : (old new : List Note) (path : List ℕ) (Said : List ℕ → Typ
     → HasNote new path Said
 note_kept old new path Said kept h = (h.0, (kept h.0 h.1.0, h.1.1))
 
-pub hinted_kept : (jobs : Option Data) (old new : List Note) (path : List ℕ) (p : Place) → KeepsNotes old new → IsHinted jobs old path p
+pub hinted_kept : (jobs : Option Data) (old new : List Note) (path : List ℕ) (p : FilePlace) → KeepsNotes old new → IsHinted jobs old path p
     → IsHinted jobs new path p
 hinted_kept jobs old new path p kept h = record {
   unknown = λ e. note_kept old new _ _ kept (h.unknown e);
@@ -40,7 +40,7 @@ note_says notes path text Said h says = (h.0, (h.1.0, (h.1.1.0, subst Said (sym 
 
 -- ---- by the kind of a place
 
-pub hinted_unknown : (jobs : Option Data) (notes : List Note) (path : List ℕ) (p : Place) → p.kind ≡ kinds.Unknown
+pub hinted_unknown : (jobs : Option Data) (notes : List Note) (path : List ℕ) (p : FilePlace) → p.kind ≡ kinds.Unknown
     → HasNote notes path (SaysUnknown p) → IsHinted jobs notes path p
 hinted_unknown jobs notes path p k h = record {
   unknown = λ e. h;
@@ -48,7 +48,7 @@ hinted_unknown jobs notes path p k h = record {
   need = λ shows. absurd (⊎_elim (λ (e : p.kind ≡ kinds.Needs). cc) (λ (e : p.kind ≡ kinds.Need). cc) shows.0);
 }
 
-pub hinted_idle : (jobs : Option Data) (notes : List Note) (path : List ℕ) (p : Place) → p.kind ≡ kinds.Idle
+pub hinted_idle : (jobs : Option Data) (notes : List Note) (path : List ℕ) (p : FilePlace) → p.kind ≡ kinds.Idle
     → HasNote notes path (SaysIdle p) → IsHinted jobs notes path p
 hinted_idle jobs notes path p k h = record {
   unknown = λ (e : p.kind ≡ kinds.Unknown). absurd (cc);
@@ -56,21 +56,21 @@ hinted_idle jobs notes path p k h = record {
   need = λ shows. absurd (⊎_elim (λ (e : p.kind ≡ kinds.Needs). cc) (λ (e : p.kind ≡ kinds.Need). cc) shows.0);
 }
 
-pub hinted_event : (jobs : Option Data) (notes : List Note) (path : List ℕ) (p : Place) → p.kind ≡ kinds.Event → IsHinted jobs notes path p
+pub hinted_event : (jobs : Option Data) (notes : List Note) (path : List ℕ) (p : FilePlace) → p.kind ≡ kinds.Event → IsHinted jobs notes path p
 hinted_event jobs notes path p k = record {
   unknown = λ (e : p.kind ≡ kinds.Unknown). absurd (cc);
   idle = λ (e : p.kind ≡ kinds.Idle). absurd (cc);
   need = λ shows. absurd (⊎_elim (λ (e : p.kind ≡ kinds.Needs). cc) (λ (e : p.kind ≡ kinds.Need). cc) shows.0);
 }
 
-pub hinted_step : (jobs : Option Data) (notes : List Note) (path : List ℕ) (p : Place) → p.kind ≡ kinds.Step → IsHinted jobs notes path p
+pub hinted_step : (jobs : Option Data) (notes : List Note) (path : List ℕ) (p : FilePlace) → p.kind ≡ kinds.Step → IsHinted jobs notes path p
 hinted_step jobs notes path p k = record {
   unknown = λ (e : p.kind ≡ kinds.Unknown). absurd (cc);
   idle = λ (e : p.kind ≡ kinds.Idle). absurd (cc);
   need = λ shows. absurd (⊎_elim (λ (e : p.kind ≡ kinds.Needs). cc) (λ (e : p.kind ≡ kinds.Need). cc) shows.0);
 }
 
-pub hinted_need : (jobs : Option Data) (notes : List Note) (path : List ℕ) (p : Place) → IsNeed p.kind
+pub hinted_need : (jobs : Option Data) (notes : List Note) (path : List ℕ) (p : FilePlace) → IsNeed p.kind
     → (ShowsNeed jobs p → HasNote notes path (SaysNeed jobs p)) → IsHinted jobs notes path p
 hinted_need jobs notes path p k h = record {
   unknown = λ (u : p.kind ≡ kinds.Unknown). absurd (⊎_elim (λ (e : p.kind ≡ kinds.Needs). cc) (λ (e : p.kind ≡ kinds.Need). cc) k);
@@ -79,7 +79,7 @@ hinted_need jobs notes path p k h = record {
 }
 
 -- of a kind that is none of these
-pub hinted_text : (jobs : Option Data) (notes : List Note) (path : List ℕ) (p : Place) → (p.kind ≡ kinds.Unknown → ⊥)
+pub hinted_text : (jobs : Option Data) (notes : List Note) (path : List ℕ) (p : FilePlace) → (p.kind ≡ kinds.Unknown → ⊥)
     → (p.kind ≡ kinds.Idle → ⊥) → (p.kind ≡ kinds.Needs → ⊥) → (p.kind ≡ kinds.Need → ⊥)
     → IsHinted jobs notes path p
 hinted_text jobs notes path p unknown idle needs need = record {
@@ -106,5 +106,5 @@ hints_all root told notes nodes count all past hinted path p looked not_told =
     let jobs = get (codes "jobs") root in
     let one = All-contains (HasHints root told notes) nodes at.0 (subst (All (HasHints root told notes)) (take_all count nodes past) hinted) at.1.0 in
     let is_told : at.0.path ≡ told → ⊥ = λ e. not_told (sym at.1.1.0 ∙ e) in
-    subst (λ (q : Place). IsHinted jobs notes path q) at.1.1.1
+    subst (λ (q : FilePlace). IsHinted jobs notes path q) at.1.1.1
     (subst (λ (front : List ℕ). IsHinted jobs notes front (place_of at.0)) at.1.1.0 (one is_told))

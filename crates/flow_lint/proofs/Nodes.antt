@@ -12,7 +12,7 @@ use Rattle.serde_json.specs.declared.value.Value.{Value}
 use Rattle.flow_lint.specs.Keys.{IsOpened}
 use Rattle.flow_lint.specs.Kinds.{IsList}
 use Rattle.flow_lint.specs.Nodes.{AreAll, GivesInner, Has, HasAt, HasInner, HasItems, HasMembers, Keeps, place_of}
-use Rattle.flow_lint.specs.Places.{AreTaken, IsTaken, Place, StandsAt, Way, key, item, below, follow, found, inner, kind_around, kind_of, last_text, level_of, path_text, way_text, whole}
+use Rattle.flow_lint.specs.Places.{AreTaken, IsTaken, FilePlace, StandsAt, Way, key, item, below, follow, found, inner, kind_around, kind_of, last_text, level_of, path_text, way_text, whole}
 use Rattle.flow_lint.specs.declared.kind.Level.{Level}
 use Rattle.flow_lint.specs.declared.kind.NodeKind.{NodeKind}
 use Rattle.flow_lint.specs.declared.kind.NodeKind.TheVariants as kinds
@@ -20,13 +20,13 @@ use Rattle.flow_lint.specs.declared.node.Node.{Node}
 
 -- ---- one of some nodes
 
-pub has_left : (xs ys : List Node) (path : List ℕ) (p : Place) → Has xs path p → Has (xs ++ ys) path p
+pub has_left : (xs ys : List Node) (path : List ℕ) (p : FilePlace) → Has xs path p → Has (xs ++ ys) path p
 has_left xs ys path p h = (h.0, (Contains-append_left xs ys h.0 h.1.0, h.1.1))
 
 pub has_last : (xs : List Node) (node : Node) → Has (xs ++ node ∷ []) node.path (place_of node)
 has_last xs node = (node, (Contains-push xs node, (refl, refl)))
 
-pub has_push : (xs : List Node) (node : Node) (path : List ℕ) (p : Place) → Has (xs ++ node ∷ []) path p
+pub has_push : (xs : List Node) (node : Node) (path : List ℕ) (p : FilePlace) → Has (xs ++ node ∷ []) path p
     → Has xs path p ⊎ ((node.path ≡ path) × (place_of node ≡ p))
 has_push xs node path p h =
     ⊎_elim (λ at. inl (h.0, (at, h.1.1)))
@@ -51,7 +51,7 @@ one_more node last value (Some v) (Some made) nodes gives has e =
     let same : v ≡ value = cc in
     subst (λ (w : Data). HasAt node last w nodes) same
     (subst (λ (path : List ℕ). Has nodes path (inner (place_of node) last v)) gives.0
-    (subst (λ (p : Place). Has nodes made.path p) gives.1 has))
+    (subst (λ (p : FilePlace). Has nodes made.path p) gives.1 has))
 
 abbrev pub Entry : Type 0
 Entry = String Global × Value
@@ -130,32 +130,32 @@ has_no_members node nodes gone name value is = let here = gone name in absurd (c
 
 -- ---- nodes that wait
 
-has_none : (path : List ℕ) (p : Place) → Has [] path p → ⊥
+has_none : (path : List ℕ) (p : FilePlace) → Has [] path p → ⊥
 has_none path p h = let within = h.1.0.1 in omega arith
 
 -- A place is among the nodes that wait, or among those that were laid out.
-abbrev pub IsIn : List Node → List Node → List ℕ → Place → Type 0
+abbrev pub IsIn : List Node → List Node → List ℕ → FilePlace → Type 0
 IsIn waiting nodes path p = Has waiting path p ⊎ Has nodes path p
 
-none_waits : (nodes : List Node) (path : List ℕ) (p : Place) → IsIn [] nodes path p → Has nodes path p
+none_waits : (nodes : List Node) (path : List ℕ) (p : FilePlace) → IsIn [] nodes path p → Has nodes path p
 none_waits nodes path p = ⊎_elim (λ (waits : Has [] path p). absurd (has_none path p waits)) (λ (at : Has nodes path p). at)
 
 -- one of the nodes goes to those that wait
 pub one_turned : (all waiting nodes waiting' nodes' : List Node) (node : Node)
-    → ((path : List ℕ) (p : Place) → Has all path p → IsIn waiting nodes path p)
+    → ((path : List ℕ) (p : FilePlace) → Has all path p → IsIn waiting nodes path p)
     → nodes ≡ nodes' ++ node ∷ [] → waiting' ≡ waiting ++ node ∷ []
-    → (path : List ℕ) (p : Place) → Has all path p → IsIn waiting' nodes' path p
+    → (path : List ℕ) (p : FilePlace) → Has all path p → IsIn waiting' nodes' path p
 one_turned all waiting nodes waiting' nodes' node h nodes_are waiting_are path p at =
     ⊎_elim (λ (was : Has waiting path p). inl (kept_by_push waiting waiting' node waiting_are path p was))
     (λ (was : Has nodes path p).
     ⊎_elim (λ (stays : Has nodes' path p). inr stays)
     (λ (is : (node.path ≡ path) × (place_of node ≡ p)).
-    inl (subst (λ (q : Place). Has waiting' path q) is.1
+    inl (subst (λ (q : FilePlace). Has waiting' path q) is.1
     (subst (λ (front : List ℕ). Has waiting' front (place_of node)) is.0 (added_by_push waiting waiting' node waiting_are))))
     (has_push nodes' node path p (subst (λ (l : List Node). Has l path p) nodes_are was)))
     (h path p at)
 
-pub all_turned : (all waiting nodes : List Node) → ((path : List ℕ) (p : Place) → Has all path p → IsIn waiting nodes path p)
+pub all_turned : (all waiting nodes : List Node) → ((path : List ℕ) (p : FilePlace) → Has all path p → IsIn waiting nodes path p)
     → nodes ≡ [] → Keeps all waiting
 all_turned all waiting nodes h nodes_are path p at =
     ⊎_elim (λ (was : Has waiting path p). was)
@@ -163,24 +163,24 @@ all_turned all waiting nodes h nodes_are path p at =
     (h path p at)
 
 -- Each step that is taken from a place leads to one of either.
-abbrev pub LeadIn : List Node → List Node → List ℕ → Place → Type 0
+abbrev pub LeadIn : List Node → List Node → List ℕ → FilePlace → Type 0
 LeadIn waiting nodes path p =
     (way : Way) (value : Data) → IsTaken p.kind way → follow way p.value ≡ Some value
     → IsIn waiting nodes (below path (way_text way)) (inner p (way_text way) value)
 
 -- So it is from each node that was laid out.
 abbrev pub AreClosed : List Node → List Node → Type 0
-AreClosed waiting nodes = (path : List ℕ) (p : Place) → Has nodes path p → LeadIn waiting nodes path p
+AreClosed waiting nodes = (path : List ℕ) (p : FilePlace) → Has nodes path p → LeadIn waiting nodes path p
 
 -- one of those that wait is laid out, and what stands in it waits
 pub still_in : (waiting nodes rest waiting' nodes' : List Node) (node : Node)
     → waiting ≡ rest ++ node ∷ [] → Keeps rest waiting' → nodes' ≡ nodes ++ node ∷ []
-    → (path : List ℕ) (p : Place) → IsIn waiting nodes path p → IsIn waiting' nodes' path p
+    → (path : List ℕ) (p : FilePlace) → IsIn waiting nodes path p → IsIn waiting' nodes' path p
 still_in waiting nodes rest waiting' nodes' node waiting_are kept nodes_are path p =
     ⊎_elim (λ (was : Has waiting path p).
     ⊎_elim (λ (stays : Has rest path p). inl (kept path p stays))
     (λ (is : (node.path ≡ path) × (place_of node ≡ p)).
-    inr (subst (λ (q : Place). Has nodes' path q) is.1
+    inr (subst (λ (q : FilePlace). Has nodes' path q) is.1
     (subst (λ (front : List ℕ). Has nodes' front (place_of node)) is.0 (added_by_push nodes nodes' node nodes_are))))
     (has_push rest node path p (subst (λ (l : List Node). Has l path p) waiting_are was)))
     (λ (was : Has nodes path p). inr (kept_by_push nodes nodes' node nodes_are path p was))
@@ -197,7 +197,7 @@ still_closed waiting nodes rest inners waiting' nodes' node waiting_are kept add
     ⊎_elim (λ (was : Has nodes path p) (way : Way) (value : Data) (taken : IsTaken p.kind way) (is : follow way p.value ≡ Some value).
     still_in waiting nodes rest waiting' nodes' node waiting_are kept nodes_are _ _ (closed path p was way value taken is))
     (λ (is : (node.path ≡ path) × (place_of node ≡ p)).
-    subst (λ (q : Place). LeadIn waiting' nodes' path q) is.1
+    subst (λ (q : FilePlace). LeadIn waiting' nodes' path q) is.1
     (subst (λ (front : List ℕ). LeadIn waiting' nodes' front (place_of node)) is.0
     (λ (way : Way) (value : Data) (taken : IsTaken node.kind way) (found_it : follow way (view node.value.now) ≡ Some value).
     inl (added _ _ (inner_of node inners all way value taken found_it)))))
@@ -205,7 +205,7 @@ still_closed waiting nodes rest inners waiting' nodes' node waiting_are kept add
 
 -- ---- where none waits
 
-abbrev place_with : NodeKind → NodeKind → Level → List ℕ → Data → Place
+abbrev place_with : NodeKind → NodeKind → Level → List ℕ → Data → FilePlace
 place_with around kind level last value = record {
   around = around;
   kind = kind;
@@ -214,10 +214,10 @@ place_with around kind level last value = record {
   value = value;
 }
 
-abbrev place_at : List Way → Data → Place
+abbrev place_at : List Way → Data → FilePlace
 place_at ways value = place_with (kind_around ways) (kind_of ways) (level_of ways) (last_text ways) value
 
-at_its_place : (root : Data) (path : List ℕ) (p : Place) (s : StandsAt root path p) → place_at s.ways p.value ≡ p
+at_its_place : (root : Data) (path : List ℕ) (p : FilePlace) (s : StandsAt root path p) → place_at s.ways p.value ≡ p
 at_its_place root path p s =
     ap (λ (around : NodeKind). place_with around (kind_of s.ways) (level_of s.ways) (last_text s.ways) p.value) (sym s.is_around)
     ∙ (ap (λ (kind : NodeKind). place_with p.around kind (level_of s.ways) (last_text s.ways) p.value) (sym s.is_kind)
@@ -242,7 +242,7 @@ along root nodes has closed (way ∷ ways) value is taken =
 pub all_in : (root : Data) (nodes : List Node) → IsIn [] nodes [] (whole root) → AreClosed [] nodes → AreAll root nodes
 all_in root nodes has closed path p looked =
     let s = looked.stands in
-    subst (λ (q : Place). Has nodes path q) (at_its_place root path p s)
+    subst (λ (q : FilePlace). Has nodes path q) (at_its_place root path p s)
     (subst (λ (front : List ℕ). Has nodes front (place_at s.ways p.value)) (sym s.is_path)
     (along root nodes (none_waits nodes [] (whole root) has) closed s.ways p.value s.stands looked.are_taken))
 
@@ -251,7 +251,7 @@ all_in root nodes has closed path p looked =
 pub first_in : (root : Data) (waiting nodes none : List Node) (node : Node) → waiting ≡ none ++ node ∷ [] → node.path ≡ []
     → place_of node ≡ whole root → IsIn waiting nodes [] (whole root)
 first_in root waiting nodes none node waiting_are is_path is_place =
-    inl (subst (λ (p : Place). Has waiting [] p) is_place
+    inl (subst (λ (p : FilePlace). Has waiting [] p) is_place
     (subst (λ (path : List ℕ). Has waiting path (place_of node)) is_path (added_by_push none waiting node waiting_are)))
 
 pub first_closed : (waiting nodes : List Node) → nodes ≡ [] → AreClosed waiting nodes

@@ -13,26 +13,26 @@ use Rattle.flow_reader.specs.declared.fault.FlowFault.{FlowFault}
 use Rattle.flow_reader.specs.declared.fault.FlowFault.TheVariants as flow
 use Rattle.flow_lint.specs.Notes.{FlowPlace, IsNowhere, IsSeen}
 use Rattle.flow_lint.specs.Shows.{ShowsFlow}
-use Rattle.flow_lint.specs.Places.{HasTwice, Place, Repeats, id_at}
+use Rattle.flow_lint.specs.Places.{HasTwice, FilePlace, Repeats, id_at}
 use Rattle.flow_lint.specs.declared.node.Node.{Node}
 
 -- no node of some shows it
-abbrev pub NoneShows : (Place → Type 0) → List Node → Type 0
+abbrev pub NoneShows : (FilePlace → Type 0) → List Node → Type 0
 NoneShows Shows nodes = All (λ node. Shows (place_of node) → ⊥) nodes
 
-pub seen_nowhere : (root : Data) (nodes : List Node) (Shows : Place → Type 0) → AreAll root nodes → NoneShows Shows nodes
+pub seen_nowhere : (root : Data) (nodes : List Node) (Shows : FilePlace → Type 0) → AreAll root nodes → NoneShows Shows nodes
     → IsNowhere root Shows
 seen_nowhere root nodes Shows all none path p looked shows =
     let at = all path p looked in
     All-contains (λ node. Shows (place_of node) → ⊥) nodes at.0 none at.1.0 (subst Shows (sym at.1.1.1) shows)
 
 -- where all nodes were gone over
-pub nowhere_at_end : (root : Data) (nodes : List Node) (count : ℕ) (Shows : Place → Type 0) → AreAll root nodes → length nodes ≤ count
+pub nowhere_at_end : (root : Data) (nodes : List Node) (count : ℕ) (Shows : FilePlace → Type 0) → AreAll root nodes → length nodes ≤ count
     → NoneShows Shows (take count nodes) → IsNowhere root Shows
 nowhere_at_end root nodes count Shows all past none =
     seen_nowhere root nodes Shows all (subst (NoneShows Shows) (take_all count nodes past) none)
 
-pub none_more : (Shows : Place → Type 0) (nodes : List Node) (count : ℕ) (node : Node) → count < length nodes → NoneShows Shows (take count nodes)
+pub none_more : (Shows : FilePlace → Type 0) (nodes : List Node) (count : ℕ) (node : Node) → count < length nodes → NoneShows Shows (take count nodes)
     → (Shows (place_of (get_or nodes count node)) → ⊥) → NoneShows Shows (take (count + 1) nodes)
 none_more Shows nodes count node within none not_here = All-more (λ one. Shows (place_of one) → ⊥) nodes count node within none not_here
 
@@ -128,7 +128,7 @@ no_list_at (string s) e place = refl
 no_list_at (array ds) e place = absurd (cc)
 no_list_at (object ms) e place = refl
 
-pub no_ids : (name : List ℕ) (p : Place) → as_array p.value ≡ None → HasTwice name p → ⊥
+pub no_ids : (name : List ℕ) (p : FilePlace) → as_array p.value ≡ None → HasTwice name p → ⊥
 no_ids name p e twice = let gone : id_at twice.1.0 p.value ≡ None = ap id_of (no_list_at p.value e twice.1.0) in
     let is = twice.1.1.0 in absurd (cc)
 

@@ -4,16 +4,16 @@ use Rattle.serde_json.specs.Data.{Data}
 use Rattle.serde_json.specs.Find.{get, at}
 use Rattle.flow_lint.specs.Keys.{kind_at}
 use Rattle.flow_lint.specs.Kinds.{level_in}
-use Rattle.flow_lint.specs.Places.{Place, StandsAt, Way, key, item, follow, below, inner, kind_of, level_of, Repeats, IsRepeated}
+use Rattle.flow_lint.specs.Places.{FilePlace, StandsAt, Way, key, item, follow, below, inner, kind_of, level_of, Repeats, IsRepeated}
 use Rattle.flow_lint.specs.declared.kind.NodeKind.{NodeKind}
 use Rattle.flow_lint.specs.declared.kind.NodeKind.TheVariants as kinds
 
-level_inside : (name : List ℕ) (p : Place) (ways : List Way) → p.kind ≡ kind_of ways → p.level ≡ level_of ways
+level_inside : (name : List ℕ) (p : FilePlace) (ways : List Way) → p.kind ≡ kind_of ways → p.level ≡ level_of ways
     → level_in (kind_at p.kind name) p.level ≡ level_in (kind_at (kind_of ways) name) (level_of ways)
 level_inside name p ways is_kind is_level =
     ap (λ (k : NodeKind). level_in (kind_at k name) p.level) is_kind ∙ ap (level_in (kind_at (kind_of ways) name)) is_level
 
-member_inside : (root : Data) (path name : List ℕ) (p : Place) (e : Data) → StandsAt root path p → get name p.value ≡ Some e
+member_inside : (root : Data) (path name : List ℕ) (p : FilePlace) (e : Data) → StandsAt root path p → get name p.value ≡ Some e
     → StandsAt root (below path name) (inner p name e)
 member_inside root path name p e s h = record {
   ways = key name ∷ s.ways;
@@ -25,15 +25,15 @@ member_inside root path name p e s h = record {
   stands = ap (option_and_then (follow (key name))) s.stands ∙ h;
 }
 
-pub member_stands : (root : Data) (path name : List ℕ) (p : Place) (e : Data) (path' : List ℕ) (p' : Place) (last : List ℕ)
+pub member_stands : (root : Data) (path name : List ℕ) (p : FilePlace) (e : Data) (path' : List ℕ) (p' : FilePlace) (last : List ℕ)
     → StandsAt root path p → get name p.value ≡ Some e → last ≡ name → path' ≡ below path last → p' ≡ inner p last e
     → StandsAt root path' p'
 member_stands root path name p e path' p' last s h is_last is_path is_place =
-    subst (λ (q : Place). StandsAt root path' q) (sym (is_place ∙ ap (λ (key' : List ℕ). inner p key' e) is_last))
+    subst (λ (q : FilePlace). StandsAt root path' q) (sym (is_place ∙ ap (λ (key' : List ℕ). inner p key' e) is_last))
     (subst (λ (front : List ℕ). StandsAt root front (inner p name e))
     (sym (is_path ∙ ap (below path) is_last)) (member_inside root path name p e s h))
 
-item_inside : (root : Data) (path : List ℕ) (place : ℕ) (p : Place) (e : Data) → StandsAt root path p → at place p.value ≡ Some e
+item_inside : (root : Data) (path : List ℕ) (place : ℕ) (p : FilePlace) (e : Data) → StandsAt root path p → at place p.value ≡ Some e
     → StandsAt root (below path (decimal place)) (inner p (decimal place) e)
 item_inside root path place p e s h = record {
   ways = item place ∷ s.ways;
@@ -45,16 +45,16 @@ item_inside root path place p e s h = record {
   stands = ap (option_and_then (follow (item place))) s.stands ∙ h;
 }
 
-pub item_stands : (root : Data) (path : List ℕ) (place : ℕ) (p : Place) (e : Data) (path' : List ℕ) (p' : Place) (last : List ℕ)
+pub item_stands : (root : Data) (path : List ℕ) (place : ℕ) (p : FilePlace) (e : Data) (path' : List ℕ) (p' : FilePlace) (last : List ℕ)
     → StandsAt root path p → at place p.value ≡ Some e → last ≡ decimal place → path' ≡ below path last → p' ≡ inner p last e
     → StandsAt root path' p'
 item_stands root path place p e path' p' last s h is_last is_path is_place =
-    subst (λ (q : Place). StandsAt root path' q) (sym (is_place ∙ ap (λ (name : List ℕ). inner p name e) is_last))
+    subst (λ (q : FilePlace). StandsAt root path' q) (sym (is_place ∙ ap (λ (name : List ℕ). inner p name e) is_last))
     (subst (λ (front : List ℕ). StandsAt root front (inner p (decimal place) e))
     (sym (is_path ∙ ap (below path) is_last)) (item_inside root path place p e s h))
 
 -- the id of a step that an earlier step has is at the path behind that of the steps
-pub is_repeated : (root : Data) (path : List ℕ) (p : Place) (name : List ℕ) (later : ℕ) (path' : List ℕ) → StandsAt root path p
+pub is_repeated : (root : Data) (path : List ℕ) (p : FilePlace) (name : List ℕ) (later : ℕ) (path' : List ℕ) → StandsAt root path p
     → p.kind ≡ kinds.Steps → Repeats p.value name later → path' ≡ below (below path (decimal later)) (codes "id")
     → IsRepeated root name path'
 is_repeated root path p name later path' s are_steps repeats is_path = record {

@@ -13,7 +13,7 @@ use Rattle.flow_model.specs.JsonText.{json_read}
 use Rattle.flow_lint.specs.Contexts.{Sees}
 use Rattle.flow_lint.specs.Kinds.{IsTemplate}
 use Rattle.flow_lint.specs.Nodes.{place_of}
-use Rattle.flow_lint.specs.Places.{IsLookedAt, Place, StandsAt, ShowsNeed, below}
+use Rattle.flow_lint.specs.Places.{IsLookedAt, FilePlace, StandsAt, ShowsNeed, below}
 use Rattle.flow_lint.specs.Unknown.{Suggests, idle_key, job_ids, key_names, unknown_id, unknown_key}
 use Rattle.flow_lint.specs.declared.kind.NodeKind.TheVariants as kinds
 use Rattle.flow_lint.specs.declared.node.Node.{Node}
@@ -22,46 +22,46 @@ use Rattle.flow_lint.specs.declared.note.Note.{Note}
 -- ---- of the place alone
 
 -- The table knows no such key there; it is read and does nothing.
-abbrev pub SaysUnknown : Place → List ℕ → Type 0
+abbrev pub SaysUnknown : FilePlace → List ℕ → Type 0
 SaysUnknown p said = (p.kind ≡ kinds.Unknown) × Suggests (key_names p.around) p.last (unknown_key p.last) said
 
-abbrev pub SaysIdle : Place → List ℕ → Type 0
+abbrev pub SaysIdle : FilePlace → List ℕ → Type 0
 SaysIdle p said = (p.kind ≡ kinds.Idle) × (said ≡ idle_key p.last)
 
 -- An event is there, and what stands at it.
-abbrev pub SaysEvent : Place → List ℕ → Type 0
+abbrev pub SaysEvent : FilePlace → List ℕ → Type 0
 SaysEvent p said = (p.kind ≡ kinds.Event) × (said ≡ codes "what stands here does nothing: an event counts by its name alone")
 
 -- No job has the id that is needed there.
-abbrev pub SaysNeed : Option Data → Place → List ℕ → Type 0
+abbrev pub SaysNeed : Option Data → FilePlace → List ℕ → Type 0
 SaysNeed jobs p said =
     ShowsNeed jobs p × ((id : List ℕ) × ((as_str p.value ≡ Some id) × Suggests (job_ids jobs) id (unknown_id id) said))
 
 -- The text there is read as these pieces.
-abbrev pub IsReadAs : List Piece → Place → Type 0
+abbrev pub IsReadAs : List Piece → FilePlace → Type 0
 IsReadAs pieces p =
     (text : List ℕ) × ((as_str p.value ≡ Some text)
     × ((IsTemplate p.kind × (template_read text ≡ Some pieces)) ⊎ ((p.kind ≡ kinds.Condition) × (condition_read text ≡ Some pieces))))
 
 -- A text is evaluated there: as a template, or as a condition that is not blank.
-abbrev pub IsEvaluated : Place → Type 0
+abbrev pub IsEvaluated : FilePlace → Type 0
 IsEvaluated p =
     (text : List ℕ) × ((as_str p.value ≡ Some text)
     × (IsTemplate p.kind ⊎ ((p.kind ≡ kinds.Condition) × (is_blank text ≡ false))))
 
 -- A text names a context that it does not see.
-pub record NamesUnseen (context : Context) (p : Place) : Type 0 where
+pub record NamesUnseen (context : Context) (p : FilePlace) : Type 0 where
   pub pieces : List Piece
   pub read : IsReadAs pieces p
   pub names : pieces_name_context context pieces ≡ true
   pub unseen : Sees context p → ⊥
 
-abbrev pub SaysEmpty : Place → List ℕ → Type 0
+abbrev pub SaysEmpty : FilePlace → List ℕ → Type 0
 SaysEmpty p said =
     (context : Context) × (NamesUnseen context p
     × (said ≡ codes "the context `" ++ (context_name context ++ codes "` is empty here")))
 
-abbrev pub Says : Option Data → Place → List ℕ → Type 0
+abbrev pub Says : Option Data → FilePlace → List ℕ → Type 0
 Says jobs p said = SaysUnknown p said ⊎ (SaysIdle p said ⊎ (SaysEvent p said ⊎ (SaysNeed jobs p said ⊎ SaysEmpty p said)))
 
 -- ---- of a key of a step beside another
@@ -71,7 +71,7 @@ abbrev pub beside_others : List (List ℕ × List ℕ)
 beside_others =
     (codes "shell", codes "uses") ∷ (codes "with", codes "run") ∷ (codes "working-directory", codes "uses") ∷ []
 
-pub record IsBeside (path : List ℕ) (p : Place) (note : Note) : Type 0 where
+pub record IsBeside (path : List ℕ) (p : FilePlace) (note : Note) : Type 0 where
   pub both : List ℕ × List ℕ
   pub one : Contains beside_others both
   pub is_step : p.kind ≡ kinds.Step
@@ -83,7 +83,7 @@ pub record IsBeside (path : List ℕ) (p : Place) (note : Note) : Type 0 where
 -- ---- of a file
 
 -- A hint on what is to be seen at a path.
-abbrev pub Hints : Option Data → List ℕ → Place → Note → Type 0
+abbrev pub Hints : Option Data → List ℕ → FilePlace → Note → Type 0
 Hints jobs path p note = ((note.path ≡ path) × Says jobs p note.sentence) ⊎ IsBeside path p note
 
 abbrev pub HasHint : Option Data → Node → Note → Type 0
@@ -96,7 +96,7 @@ IsHint said = (rest : List ℕ) → said ≡ codes "refused, " ++ rest → ⊥
 -- A hint of a file.
 pub record IsHintOf (root : Data) (note : Note) : Type 0 where
   pub path : List ℕ
-  pub place : Place
+  pub place : FilePlace
   pub stands : StandsAt root path place
   pub hints : Hints (get (codes "jobs") root) path place note
   pub passes : IsHint note.sentence
@@ -116,7 +116,7 @@ KeepsNotes notes others = (note : Note) → Contains notes note → Contains oth
 
 -- What a person should know of what is to be seen at a path is among some notes: that a key is not known or does nothing, that a need
 -- is of no job.
-pub record IsHinted (jobs : Option Data) (notes : List Note) (path : List ℕ) (p : Place) : Type 0 where
+pub record IsHinted (jobs : Option Data) (notes : List Note) (path : List ℕ) (p : FilePlace) : Type 0 where
   pub unknown : p.kind ≡ kinds.Unknown → HasNote notes path (SaysUnknown p)
   pub idle : p.kind ≡ kinds.Idle → HasNote notes path (SaysIdle p)
   pub need : ShowsNeed jobs p → HasNote notes path (SaysNeed jobs p)
@@ -127,7 +127,7 @@ HasHints root told notes node = (node.path ≡ told → ⊥) → IsHinted (get (
 -- So it is of each place that is looked at, but for the one of which something is told already.
 abbrev pub AreAllHints : Data → List ℕ → List Note → Type 0
 AreAllHints root told notes =
-    (path : List ℕ) (p : Place) → IsLookedAt root path p → (path ≡ told → ⊥) → IsHinted (get (codes "jobs") root) notes path p
+    (path : List ℕ) (p : FilePlace) → IsLookedAt root path p → (path ≡ told → ⊥) → IsHinted (get (codes "jobs") root) notes path p
 
 -- The hints of a file's bytes, which has none where it is no JSON, but for those on the place of which something is told already.
 pub record AreHints (bytes told : List ℕ) (notes : List Note) : Type 0 where

@@ -6,11 +6,11 @@ use Rattle.serde_json.specs.Find.{get, at}
 use Rattle.serde_json.specs.View.{view}
 use Rattle.flow_lint.specs.Keys.{IsOpened}
 use Rattle.flow_lint.specs.Kinds.{IsList}
-use Rattle.flow_lint.specs.Places.{Place, StandsAt, IsLookedAt, ShowsNeed, below, inner}
+use Rattle.flow_lint.specs.Places.{FilePlace, StandsAt, IsLookedAt, ShowsNeed, below, inner}
 use Rattle.flow_lint.specs.declared.node.Node.{Node}
 
 -- What a place says is to be seen there.
-abbrev pub place_of : Node → Place
+abbrev pub place_of : Node → FilePlace
 place_of node = record {
   around = node.around;
   kind = node.kind;
@@ -26,16 +26,16 @@ Fits root node = StandsAt root node.path (place_of node)
 -- ---- all places
 
 -- One of some nodes is this place at this path.
-abbrev pub Has : List Node → List ℕ → Place → Type 0
+abbrev pub Has : List Node → List ℕ → FilePlace → Type 0
 Has nodes path p = (node : Node) × (Contains nodes node × ((node.path ≡ path) × (place_of node ≡ p)))
 
 -- Each place of a file that is looked at is one of these.
 abbrev pub AreAll : Data → List Node → Type 0
-AreAll root nodes = (path : List ℕ) (p : Place) → IsLookedAt root path p → Has nodes path p
+AreAll root nodes = (path : List ℕ) (p : FilePlace) → IsLookedAt root path p → Has nodes path p
 
 -- What is among some nodes is among others.
 abbrev pub Keeps : List Node → List Node → Type 0
-Keeps nodes others = (path : List ℕ) (p : Place) → Has nodes path p → Has others path p
+Keeps nodes others = (path : List ℕ) (p : FilePlace) → Has nodes path p → Has others path p
 
 -- ---- what stands in a place
 

@@ -13,26 +13,26 @@ use Rattle.plan_assembler.specs.declared.fault.PlanFault.{PlanFault}
 use Rattle.plan_assembler.specs.declared.fault.PlanFault.TheVariants as plan
 use Rattle.flow_lint.specs.Cycles.{TellsCycle}
 use Rattle.flow_lint.specs.Hints.{SaysNeed}
-use Rattle.flow_lint.specs.Places.{Place, StandsAt, IsLookedAt, ShowsNeed, HasTwice, IsRepeated}
+use Rattle.flow_lint.specs.Places.{FilePlace, StandsAt, IsLookedAt, ShowsNeed, HasTwice, IsRepeated}
 use Rattle.flow_lint.specs.Shows.{ShowsFlow, ShowsText}
 use Rattle.flow_lint.specs.declared.note.Note.{Note}
 
 -- The path leads to a place that shows something.
-pub record LeadsTo (root : Data) (path : List ℕ) (Shows : Place → Type 0) : Type 0 where
-  pub place : Place
+pub record LeadsTo (root : Data) (path : List ℕ) (Shows : FilePlace → Type 0) : Type 0 where
+  pub place : FilePlace
   pub stands : StandsAt root path place
   pub shows : Shows place
 
 -- It is to be seen at no place that is looked at.
-abbrev pub IsNowhere : Data → (Place → Type 0) → Type 0
-IsNowhere root Shows = (path : List ℕ) (p : Place) → IsLookedAt root path p → Shows p → ⊥
+abbrev pub IsNowhere : Data → (FilePlace → Type 0) → Type 0
+IsNowhere root Shows = (path : List ℕ) (p : FilePlace) → IsLookedAt root path p → Shows p → ⊥
 
 -- A place of a file where something is to be seen, or the whole file, where it is to be seen nowhere.
-abbrev pub IsSeen : Data → List ℕ → (Place → Type 0) → Type 0
+abbrev pub IsSeen : Data → List ℕ → (FilePlace → Type 0) → Type 0
 IsSeen root path Shows = LeadsTo root path Shows ⊎ ((path ≡ []) × IsNowhere root Shows)
 
 -- A place of a file where something is to be seen, or the whole file.
-abbrev pub IsSeenOrWhole : Data → List ℕ → (Place → Type 0) → Type 0
+abbrev pub IsSeenOrWhole : Data → List ℕ → (FilePlace → Type 0) → Type 0
 IsSeenOrWhole root path Shows = (path ≡ []) ⊎ LeadsTo root path Shows
 
 -- No name is none, and an id stands twice, at the second of its places; or the whole file, where none does.

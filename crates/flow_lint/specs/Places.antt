@@ -62,7 +62,7 @@ level_of (way ∷ ways) = level_in (kind_of (way ∷ ways)) (level_of ways)
 
 -- What is to be seen at a place: what the table of keys has there and around it, to what it belongs, the last key or number, and the
 -- value.
-pub record Place : Type 0 where
+pub record FilePlace : Type 0 where
   pub around : NodeKind
   pub kind : NodeKind
   pub level : Level
@@ -70,7 +70,7 @@ pub record Place : Type 0 where
   pub value : Data
 
 -- What is to be seen one step further.
-abbrev pub inner : Place → List ℕ → Data → Place
+abbrev pub inner : FilePlace → List ℕ → Data → FilePlace
 inner p last value = record {
   around = p.kind;
   kind = kind_at p.kind last;
@@ -80,7 +80,7 @@ inner p last value = record {
 }
 
 -- At this path of a file is this to be seen.
-pub record StandsAt (root : Data) (path : List ℕ) (p : Place) : Type 0 where
+pub record StandsAt (root : Data) (path : List ℕ) (p : FilePlace) : Type 0 where
   pub ways : List Way
   pub is_path : path ≡ path_text ways
   pub is_around : p.around ≡ kind_around ways
@@ -92,7 +92,7 @@ pub record StandsAt (root : Data) (path : List ℕ) (p : Place) : Type 0 where
 -- ---- places that are looked at
 
 -- The whole of a file.
-abbrev pub whole : Data → Place
+abbrev pub whole : Data → FilePlace
 whole root = record {
   around = kinds.Workflow;
   kind = kinds.Workflow;
@@ -113,20 +113,20 @@ AreTaken [] = Unit {0}
 AreTaken (way ∷ ways) = IsTaken (kind_of ways) way × AreTaken ways
 
 -- What is to be seen at a path of a file is looked at.
-pub record IsLookedAt (root : Data) (path : List ℕ) (p : Place) : Type 0 where
+pub record IsLookedAt (root : Data) (path : List ℕ) (p : FilePlace) : Type 0 where
   pub stands : StandsAt root path p
   pub are_taken : AreTaken stands.ways
 
 -- ---- texts and needs
 
 -- A fault stands in a text, which is read as a template or as a condition, as the table says.
-pub record IsUnread (fault : ExprFault) (p : Place) : Type 0 where
+pub record IsUnread (fault : ExprFault) (p : FilePlace) : Type 0 where
   pub text : List ℕ
   pub is : as_str p.value ≡ Some text
   pub stands : (IsTemplate p.kind × TemplateFaultStands text fault) ⊎ ((p.kind ≡ kinds.Condition) × ConditionFaultStands text fault)
 
 -- A text where a need stands is the id of no job.
-abbrev pub ShowsNeed : Option Data → Place → Type 0
+abbrev pub ShowsNeed : Option Data → FilePlace → Type 0
 ShowsNeed jobs p = IsNeed p.kind × ((id : List ℕ) × ((as_str p.value ≡ Some id) × (option_and_then (get id) jobs ≡ None)))
 
 -- ---- ids of steps
@@ -141,7 +141,7 @@ Repeats steps name later =
     (id_at later steps ≡ Some name) × ((earlier : ℕ) × ((earlier < later) × (id_at earlier steps ≡ Some name)))
 
 -- Two steps of a job have this id.
-abbrev pub HasTwice : List ℕ → Place → Type 0
+abbrev pub HasTwice : List ℕ → FilePlace → Type 0
 HasTwice name p = (p.kind ≡ kinds.Steps) × ((later : ℕ) × Repeats p.value name later)
 
 -- The path leads to the id of a step, which an earlier step of the same job has.

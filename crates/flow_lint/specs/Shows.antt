@@ -10,7 +10,7 @@ use Rattle.flow_model.specs.Json.{value_of}
 use Rattle.flow_model.specs.Name.{is_id}
 use Rattle.flow_model.specs.Rules.{is_variable_name}
 use Rattle.flow_lint.specs.Kinds.{WantsValue, WantsWhole, Wants}
-use Rattle.flow_lint.specs.Places.{Place, IsUnread}
+use Rattle.flow_lint.specs.Places.{FilePlace, IsUnread}
 use Rattle.flow_lint.specs.declared.kind.NodeKind.TheVariants as kinds
 use Rattle.flow_reader.specs.Parts.{shell_named}
 use Rattle.flow_reader.specs.Checked.{bad}
@@ -30,7 +30,7 @@ pub record Lacks (key : List ℕ) (d : Data) : Type 0 where
   pub no_other : get (other_key key) d ≡ None
 
 -- A name is none at a place where one has to be: the id of a job or output, the name of a variable, the id of a step.
-abbrev pub IsMisnamed : List ℕ → Place → Type 0
+abbrev pub IsMisnamed : List ℕ → FilePlace → Type 0
 IsMisnamed name p =
     (((p.kind ≡ kinds.Job) ⊎ (p.kind ≡ kinds.Output)) × ((p.last ≡ name) × (is_id name ≡ false)))
     ⊎ (((p.kind ≡ kinds.Variable) × ((p.last ≡ name) × (is_variable_name name ≡ false)))
@@ -43,7 +43,7 @@ HasExpression d = (text : List ℕ) × ((as_str d ≡ Some text) × (has_marker 
 -- A place shows a fault: a number in the value there is not held as whole; it is an object that lacks the key that has to be in it;
 -- a name there is none; the table leaves its key out, or it has an expression where a value is written; it is a text where a
 -- shell is named, and names none.
-abbrev pub ShowsFlow : FlowFault → Place → Type 0
+abbrev pub ShowsFlow : FlowFault → FilePlace → Type 0
 ShowsFlow flow.NotJson p = ⊥
 ShowsFlow flow.NotWhole p = WantsWhole p.kind × (value_of p.value ≡ None)
 ShowsFlow (flow.Missing missed) p = Wants p.kind missed × Lacks missed p.value
@@ -56,6 +56,6 @@ ShowsFlow flow.UnknownShell p =
 ShowsFlow flow.Memory p = ⊥
 
 -- A fault of that name stands at that byte of a text.
-abbrev pub ShowsText : ExprFault → Place → Type 0
+abbrev pub ShowsText : ExprFault → FilePlace → Type 0
 ShowsText fault p =
     (other : ExprFault) × (IsUnread other p × ((fault_name other ≡ fault_name fault) × (fault_place other ≡ fault_place fault)))

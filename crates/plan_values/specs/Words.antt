@@ -16,7 +16,7 @@ pub use Rattle.expr_value.specs.Answer.{Gives}
 pub use Rattle.expr_value.specs.Context.{Contexts}
 pub use Rattle.expr_value.specs.Convert.{text_of}
 pub use Rattle.expr_value.specs.Evaluate.{evaluated}
-pub use Rattle.expr_value.specs.Kind.{kind_of}
+pub use Rattle.expr_value.specs.PlainKind.{kind_of}
 pub use Rattle.expr_value.specs.Named.{any_names_context, is_same_context}
 pub use Rattle.expr_value.specs.declared.status.Status.{Status}
 pub use Rattle.flow_model.specs.Answer.{is_exit_code, is_output, is_pair, is_well_formed}

@@ -3,7 +3,7 @@ use Rattle.std.proofs.Common.{ℕ, ◌<◌, ◌^◌, List, [], ◌∷◌, ◌++�
 use Rattle.crossbeam_queue.specs.Fifo.{Pushes, Pops, Forks, Merges, Learns}
 use Rattle.ready_queue.specs.History.{GoesWith}
 use Rattle.ready_queue.specs.House.{StaysAtPut, StaysAtTake, StaysAtSplit, StaysAtJoin, HeldAt}
-use Rattle.ready_queue.specs.Rule.{Kept}
+use Rattle.ready_queue.specs.Rule.{KeepsRule}
 use Rattle.ready_queue.specs.Steps.{Puts, Takes, after_split, split_off, joined}
 use Rattle.ready_queue.specs.declared.record.Record.{Record}
 use Rattle.ready_queue.proofs.Moves.{puts, takes, splits, joins, goes}
@@ -11,7 +11,7 @@ use Rattle.ready_queue.proofs.Moves.{puts, takes, splits, joins, goes}
 module _ (holds : List ℕ → List (List Record) → Type 0) where
   -- Both rules.
   abbrev pub Both : List ℕ → List (List Record) → Type 0
-  Both items views = Kept items views × holds items views
+  Both items views = KeepsRule items views × holds items views
 
   pub house_puts : (n port : ℕ) (v : List Record) (x : ℕ) → 0 < length v → n < 2 ^ 64 → StaysAtPut holds n v x → Pushes Both n port v x (Puts n v x)
   house_puts n port v x live few stays items views room both at =
@@ -30,7 +30,7 @@ module _ (holds : List ℕ → List (List Record) → Type 0) where
   house_joins port v other w stays items views both at two at' = (joins port v other w items views both.0 at two at', stays port other items views both.1 at two at')
 
   -- What a pass learns from the rule of the queue alone.
-  pub of_queue : (port : ℕ) (v : List Record) (fact : List ℕ → Type 0) → Learns Kept port v fact → Learns Both port v fact
+  pub of_queue : (port : ℕ) (v : List Record) (fact : List ℕ → Type 0) → Learns KeepsRule port v fact → Learns Both port v fact
   of_queue port v fact learns items views both at = learns items views both.0 at
 
   -- What a call that is refused tells.

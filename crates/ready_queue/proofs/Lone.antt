@@ -6,7 +6,7 @@ use Rattle.crossbeam_queue.proofs.Lists.{at_set, at_snoc}
 use Rattle.ready_queue.specs.Names.{Name, keeps}
 use Rattle.ready_queue.specs.Bags.{weigh}
 use Rattle.ready_queue.specs.Records.{Each, all_put, all_taken, keepers}
-use Rattle.ready_queue.specs.Rule.{Kept}
+use Rattle.ready_queue.specs.Rule.{KeepsRule}
 use Rattle.ready_queue.specs.Steps.{with_put, with_taken, after_split, split_off}
 use Rattle.ready_queue.specs.House.{Leads}
 use Rattle.ready_queue.specs.Laws.{TakerKnows, PutterKnows, TakerStays, PutterStays}
@@ -39,7 +39,7 @@ none_put name (r ∷ rs) none only =
     rw (here, more) refl
 
 -- The others do not keep the name.
-others_keep_none : (name : Name) (items : List ℕ) (views : List (List Record)) (port : ℕ) (v : List Record) → get_elem? views port ≡ some v → Kept items views → 0 < keepers name v → keepers name (others_of views port) ≡ 0
+others_keep_none : (name : Name) (items : List ℕ) (views : List (List Record)) (port : ℕ) (v : List Record) → get_elem? views port ≡ some v → KeepsRule items views → 0 < keepers name v → keepers name (others_of views port) ≡ 0
 others_keep_none name items views port v at kept has =
     let all = total_others (keepers name) (sum_of_keepers name) views port v at in
     let once = kept.once name in
@@ -47,7 +47,7 @@ others_keep_none name items views port v at kept has =
     omega arith
 
 -- What was put by the pass and by others is what was taken by the pass and by others, and what the queue holds.
-all_told : (items : List ℕ) (views : List (List Record)) (port : ℕ) (v : List Record) → get_elem? views port ≡ some v → Kept items views
+all_told : (items : List ℕ) (views : List (List Record)) (port : ℕ) (v : List Record) → get_elem? views port ≡ some v → KeepsRule items views
     → length (all_put v) + length (all_put (others_of views port)) ≡ length (all_taken v) + length (all_taken (others_of views port)) + length items
 all_told items views port v at kept =
     let others = others_of views port in

@@ -9,7 +9,7 @@ use Rattle.ready_queue.specs.Names.{Name, same_name, keeps, under}
 use Rattle.ready_queue.specs.Bags.{weigh}
 use Rattle.ready_queue.specs.Records.{newcomer, Each, all_put, all_taken, tickets, keepers, IsWhole, AllInOrder}
 use Rattle.ready_queue.specs.History.{Put, puts_of, IsMoment, GoesWith}
-use Rattle.ready_queue.specs.Rule.{Fits, total, Kept}
+use Rattle.ready_queue.specs.Rule.{Fits, total, KeepsRule}
 use Rattle.ready_queue.specs.Steps.{Puts, Takes, after_split, split_off, joined, Closes}
 use Rattle.ready_queue.specs.declared.record.Record.{Record}
 use Rattle.ready_queue.proofs.Naming.{keeps_own, keeps_all, keeps_split, under_append, under_own, under_other, not_kept, same_is}
@@ -19,7 +19,7 @@ use Rattle.ready_queue.proofs.Orders.{all_in_order, by_one}
 -- ---- what the rule tells
 
 -- What a pass knows of one moment.
-moment : (items : List ℕ) (views : List (List Record)) (port : ℕ) (v : List Record) → (kept : Kept items views) → get_elem? views port ≡ some v → IsMoment v kept.queued
+moment : (items : List ℕ) (views : List (List Record)) (port : ℕ) (v : List Record) → (kept : KeepsRule items views) → get_elem? views port ≡ some v → IsMoment v kept.queued
 moment items views port v kept at =
     let others = others_of views port in
     let whole : IsWhole (v ++ others) = λ name. total_others (keepers name) (sum_of_keepers name) views port v at ∙ kept.once name in
@@ -40,13 +40,13 @@ moment items views port v kept at =
           omega arith;
     }
 
-pub goes : (port : ℕ) (v : List Record) → Learns Kept port v (λ items. GoesWith v items)
+pub goes : (port : ℕ) (v : List Record) → Learns KeepsRule port v (λ items. GoesWith v items)
 goes port v items views kept at = (kept.queued, kept.held, moment items views port v kept at)
 
-pub closes : (port : ℕ) (v : List Record) → Learns Kept port v (Closes v)
+pub closes : (port : ℕ) (v : List Record) → Learns KeepsRule port v (Closes v)
 closes port v items views kept at = (goes port v items views kept at, kept.few)
 
-pub orders : (port : ℕ) (v : List Record) → Learns Kept port v (λ items. AllInOrder v)
+pub orders : (port : ℕ) (v : List Record) → Learns KeepsRule port v (λ items. AllInOrder v)
 orders port v items views kept at = all_in_order kept.done kept.queued v (kept.fits port v at)
 
 -- ---- the first pass
@@ -65,7 +65,7 @@ alone : (v u : List Record) (port : ℕ) → get_elem? (v ∷ []) port ≡ some 
 alone v u zero e = some-injective v u e
 alone v u (suc port) e = absurd (some-ne-none u (sym e))
 
-pub begins : Kept [] ((newcomer [] ∷ []) ∷ [])
+pub begins : KeepsRule [] ((newcomer [] ∷ []) ∷ [])
 begins = record {
   done = [];
   queued = [];
@@ -108,7 +108,7 @@ fits_put_other done queued by x r none fits name has =
     let away = under_other name by x (not_kept r.name r.splits name by has none) in
     (puts_more done queued name (x, by) ∙ (ap (λ l. under name (puts_of done queued) ++ l) away ∙ (append-nil (under name (puts_of done queued)) ∙ h.0)), h.1)
 
-pub puts : (n port : ℕ) (v : List Record) (x : ℕ) → 0 < length v → n < 2 ^ 64 → Pushes Kept n port v x (Puts n v x)
+pub puts : (n port : ℕ) (v : List Record) (x : ℕ) → 0 < length v → n < 2 ^ 64 → Pushes KeepsRule n port v x (Puts n v x)
 puts n port [] x live small items views room kept at = absurd (omega arith)
 puts n port (own ∷ rest) x live small items views room kept at =
     let mine : Record = record own { put = own.put ++ x ∷ [] } in
@@ -166,9 +166,9 @@ took : (port : ℕ) (own : Record) (rest : List Record) (p : Put) (queued : List
     → ((weight : ℕ → ℕ) → total (λ v. weigh weight (all_put v)) views ≡ total (λ v. weigh weight (all_taken v)) views + weigh weight (p.0 ∷ items))
     → ((j : ℕ) (u : List Record) → get_elem? views j ≡ some u → Each (Fits done (p ∷ queued)) u)
     → get_elem? views port ≡ some (own ∷ rest)
-    → (w : List Record) × Kept items (set views port w) × Takes (own ∷ rest) p.0 w
+    → (w : List Record) × KeepsRule items (set views port w) × Takes (own ∷ rest) p.0 w
 took port own rest p queued items views done held few once bag fits at =
-    let before : Kept (p.0 ∷ items) views = record { done = done; queued = p ∷ queued; held = ap (λ l. p.0 ∷ l) held; few = few; once = once; bag = bag; fits = fits } in
+    let before : KeepsRule (p.0 ∷ items) views = record { done = done; queued = p ∷ queued; held = ap (λ l. p.0 ∷ l) held; few = few; once = once; bag = bag; fits = fits } in
     let mine : Record = record own { taken = own.taken ++ p ∷ [] } in
     let w : List Record = mine ∷ rest in
     let done' : List (Put × Name) = done ++ (p, own.name) ∷ [] in
@@ -208,15 +208,15 @@ first_put : (port : ℕ) (own : Record) (rest : List Record) (x : ℕ) (items : 
     → ((weight : ℕ → ℕ) → total (λ v. weigh weight (all_put v)) views ≡ total (λ v. weigh weight (all_taken v)) views + weigh weight (x ∷ items))
     → ((j : ℕ) (u : List Record) → get_elem? views j ≡ some u → Each (Fits done queued) u)
     → get_elem? views port ≡ some (own ∷ rest)
-    → (w : List Record) × Kept items (set views port w) × Takes (own ∷ rest) x w
+    → (w : List Record) × KeepsRule items (set views port w) × Takes (own ∷ rest) x w
 first_put port own rest x items views done [] held few once bag fits at = cc
 first_put port own rest x items views done (p ∷ queued) held few once bag fits at =
     let same : p.0 ≡ x = cc in
     let behind : tickets queued ≡ items = cc in
-    subst (λ (y : ℕ). length (y ∷ items) < 2 ^ 64 → ((weight : ℕ → ℕ) → total (λ v. weigh weight (all_put v)) views ≡ total (λ v. weigh weight (all_taken v)) views + weigh weight (y ∷ items)) → (w : List Record) × Kept items (set views port w) × Takes (own ∷ rest) y w) same
+    subst (λ (y : ℕ). length (y ∷ items) < 2 ^ 64 → ((weight : ℕ → ℕ) → total (λ v. weigh weight (all_put v)) views ≡ total (λ v. weigh weight (all_taken v)) views + weigh weight (y ∷ items)) → (w : List Record) × KeepsRule items (set views port w) × Takes (own ∷ rest) y w) same
     (λ f b. took port own rest p queued items views done behind f once b fits at) few bag
 
-pub takes : (port : ℕ) (v : List Record) → 0 < length v → Pops Kept port v (Takes v)
+pub takes : (port : ℕ) (v : List Record) → 0 < length v → Pops KeepsRule port v (Takes v)
 takes port [] live x items views kept at = absurd (omega arith)
 takes port (own ∷ rest) live x items views kept at = first_put port own rest x items views kept.done kept.queued kept.held kept.few kept.once kept.bag kept.fits at
 
@@ -248,7 +248,7 @@ fits_right done queued own fits name has =
     (given_none own name (under name (puts_of done queued)) own.put has (same_name name own.name) refl h.0)
     (given_none own name (under name done) own.taken has (same_name name own.name) refl h.1)
 
-pub splits : (port : ℕ) (v : List Record) → 0 < length v → Forks Kept port v (after_split v) (split_off v)
+pub splits : (port : ℕ) (v : List Record) → 0 < length v → Forks KeepsRule port v (after_split v) (split_off v)
 splits port [] live items views kept at = absurd (omega arith)
 splits port (own ∷ rest) live items views kept at =
     let left : List Record = after_split (own ∷ rest) in
@@ -286,7 +286,7 @@ splits port (own ∷ rest) live items views kept at =
 
 -- ---- a join
 
-pub joins : (port : ℕ) (v : List Record) (other : ℕ) (w : List Record) → Merges Kept port v other w (joined v w) []
+pub joins : (port : ℕ) (v : List Record) (other : ℕ) (w : List Record) → Merges KeepsRule port v other w (joined v w) []
 joins port v other w items views kept at two at' =
     let both : List Record = joined v w in
     let vs : List (List Record) = set views port both in

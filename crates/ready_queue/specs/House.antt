@@ -6,7 +6,7 @@ use lib.ListN.{get_elem?}
 use Rattle.crossbeam_queue.specs.Fifo.{Forks, Merges}
 use Rattle.ready_queue.specs.Names.{Name}
 use Rattle.ready_queue.specs.Records.{Each}
-use Rattle.ready_queue.specs.Rule.{Kept}
+use Rattle.ready_queue.specs.Rule.{KeepsRule}
 use Rattle.ready_queue.specs.Steps.{with_put, with_taken, after_split, split_off, joined}
 use Rattle.ready_queue.specs.declared.record.Record.{Record}
 
@@ -38,7 +38,7 @@ module _ (holds : List ℕ → List (List Record) → Type 0) where
 
   -- Both rules held at one moment, at which the queue held these tickets, and one of its passes these records.
   abbrev pub HeldAt : List Record → List ℕ → Type 0
-  HeldAt v items = (views : List (List Record)) × (port : ℕ) × (get_elem? views port ≡ some v) × Kept items views × holds items views
+  HeldAt v items = (views : List (List Record)) × (port : ℕ) × (get_elem? views port ≡ some v) × KeepsRule items views × holds items views
 
 -- ---- two rules that a caller can take
 

@@ -22,7 +22,7 @@ total f [] = 0
 total f (v ∷ vs) = f v + total f vs
 
 -- What holds of the tickets in the queue, oldest first, and of the records under each pass.
-pub record Kept (items : List ℕ) (views : List (List Record)) : Type 0 where
+pub record KeepsRule (items : List ℕ) (views : List (List Record)) : Type 0 where
   pub done : List (Put × Name)
   pub queued : List Put
   pub held : tickets queued ≡ items

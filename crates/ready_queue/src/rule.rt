@@ -13,9 +13,9 @@ pub(crate) struct FirstInFirstOut<H: HouseRule> {
 impl<H: HouseRule> Protocol<u64, Records> for FirstInFirstOut<H> {
     ghost use Rattle.std.specs.Prelude.{[], ◌∷◌};
     ghost use Rattle.ready_queue.specs.Records.{newcomer};
-    ghost use Rattle.ready_queue.specs.Rule.{Kept};
+    ghost use Rattle.ready_queue.specs.Rule.{KeepsRule};
 
-    ghost holds = { λ items views. Kept items views × H.holds items views };
+    ghost holds = { λ items views. KeepsRule items views × H.holds items views };
 
     ghost first = { newcomer [] ∷ [] };
 }

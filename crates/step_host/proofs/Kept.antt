@@ -13,7 +13,7 @@ use Rattle.status_table.specs.Words.{Answer, is_well_formed}
 use Rattle.board_decisions.proofs.Lists.{no_some, same_some}
 use Rattle.step_host.specs.declared.fault.ScriptFault.{ScriptFault}
 use Rattle.step_host.specs.declared.fault.ScriptFault.TheVariants.{BadScript, Memory}
-use Rattle.step_host.specs.Entries.{Kept, step_cmp, kept_for, AreWellFormed, KeepsLine, Keeps}
+use Rattle.step_host.specs.Entries.{KeptAnswer, step_cmp, kept_for, AreWellFormed, KeepsLine, Keeps}
 use Rattle.step_host.specs.Script.{Line, IsListed, IsScript, Refuses}
 use Rattle.step_host.proofs.Scripts.{AtEnd, at_end, before, last, get-last, get-front, append-none, IsFree, script-last}
 
@@ -35,11 +35,11 @@ at-self x = rw (sym (nat_cmp_is x.0 x.0 Equal refl), sym (nat_cmp_is x.1 x.1 Equ
 
 -- ---- what is kept is what is listed
 
-pub record Keeping (lines : List Line) (entries : List Kept) : Type 0 where
+pub record Keeping (lines : List Line) (entries : List KeptAnswer) : Type 0 where
   pub script : IsScript lines
   pub listed : (leg step : ℕ) (a : Answer) → kept_for entries (leg, step) ≡ Some a ↔ IsListed lines leg step a
 
-module _ (lines : List Line) (old new : List Kept) (line : Line) (keeping : Keeping lines old) (keeps : KeepsLine old line new) where
+module _ (lines : List Line) (old new : List KeptAnswer) (line : Line) (keeping : Keeping lines old) (keeps : KeepsLine old line new) where
   free : IsFree lines line.0 line.1
   free k other there leg_is step_is =
       let had = (keeping.listed other.0 other.1 other.2).1 (k, there) in
@@ -77,7 +77,7 @@ module _ (lines : List Line) (old new : List Kept) (line : Line) (keeping : Keep
   }
 
 -- where a line cannot be kept, no list that goes on from there is a script
-pub not_kept : (lines : List Line) (old : List Kept) (line : Line) (more : List Line) → Keeping lines old
+pub not_kept : (lines : List Line) (old : List KeptAnswer) (line : Line) (more : List Line) → Keeping lines old
     → (is_well_formed line.2 ≡ true → kept_for old (line.0, line.1) ≡ None → ⊥) → IsScript (lines ++ line ∷ more) → ⊥
 not_kept lines old line more keeping refused script =
     refused (script.well_formed (length lines) line (get-last lines line more)) (by (kept_for old (line.0, line.1)) refl)
@@ -93,20 +93,20 @@ not_kept lines old line more keeping refused script =
         apart k there at = let within = slice_get_within lines k (line.0, line.1, a) there in omega (arith, within, at)
 
 -- what is kept for the lines of a script is well-formed
-pub kept_well_formed : (lines : List Line) (entries : List Kept) → Keeping lines entries → AreWellFormed entries
+pub kept_well_formed : (lines : List Line) (entries : List KeptAnswer) → Keeping lines entries → AreWellFormed entries
 kept_well_formed lines entries keeping step a h =
     let there = (keeping.listed step.0 step.1 a).0 h in
     keeping.script.well_formed there.0 (step.0, step.1, a) there.1
 
 -- the fault for a line that could not be kept is that of all lines
-pub faults : (lines : List Line) (old : List Kept) (line : Line) (more : List Line) (new : List Kept) (all : List Line)
+pub faults : (lines : List Line) (old : List KeptAnswer) (line : Line) (more : List Line) (new : List KeptAnswer) (all : List Line)
     (fault : ScriptFault) → Keeping lines old → lines ++ line ∷ more ≡ all → Keeps old line (Err fault) new → Refuses all fault
 faults lines old line more new all BadScript keeping is h =
     λ script. not_kept lines old line more keeping h (subst IsScript (sym is) script)
 faults lines old line more new all Memory keeping is h = tt
 
 -- where no line is left, those that were kept are all
-pub all_kept : (lines left all : List Line) (entries : List Kept) → Keeping lines entries → lines ++ left ≡ all → length left ≡ 0 → Keeping all entries
+pub all_kept : (lines left all : List Line) (entries : List KeptAnswer) → Keeping lines entries → lines ++ left ≡ all → length left ≡ 0 → Keeping all entries
 all_kept lines [] all entries keeping is none = subst (λ (xs : List Line). Keeping xs entries) (sym (append-none lines) ∙ is) keeping
 all_kept lines (x ∷ xs) all entries keeping is none = absurd (omega (arith, none))
 

@@ -1,7 +1,7 @@
 -- Nothing is asked twice.
 use Rattle.std.proofs.Common.{◌≡◌, ◌≢◌, ◌≤◌, ◌+◌, ◌++◌, ◌==◌, ◌&&◌, ℕ, zero, suc, Bool, true, false, List, [], ◌∷◌, Option, Some, None, slice_get, is_some, cond, refl, sym, ap, subst, ◌∙◌, zero-add, arith}
 use Rattle.status_table.specs.Words.{Member, holds, holds_at}
-use Rattle.why_causes.specs.Once.{Kind, runs, jobs, legs, stops, NothingIsAskedTwice, answers, is_marked_by, mark_of, marks, one_if, same_kind}
+use Rattle.why_causes.specs.Once.{MarkKind, runs, jobs, legs, stops, NothingIsAskedTwice, answers, is_marked_by, mark_of, marks, one_if, same_kind}
 use Rattle.why_causes.specs.Tree.{asked_below, at_depth, is_told, lines, lines_of, most_lines, nothing_told, set_mark, told_after, with_told}
 use Rattle.why_causes.specs.declared.question.Question.{Question}
 use Rattle.why_causes.specs.declared.tree.Asked.{Asked}
@@ -44,7 +44,7 @@ set_room ms n k = changed-same is_some ms n (λ mark. true) (λ x at. refl) k
 
 -- ---- marks of a kind
 
-with_kind : Told → Kind → ℕ → Told
+with_kind : Told → MarkKind → ℕ → Told
 with_kind told runs n = record told { runs = set_mark told.runs n }
 with_kind told jobs n = record told { jobs = set_mark told.jobs n }
 with_kind told legs n = record told { legs = set_mark told.legs n }
@@ -54,7 +54,7 @@ set_if : Bool → List Bool → ℕ → List Bool
 set_if false ms n = ms
 set_if true ms n = set_mark ms n
 
-marks_with : (told : Told) (k : Kind) (n : ℕ) (j : Kind) → marks (with_kind told k n) j ≡ set_if (same_kind j k) (marks told j) n
+marks_with : (told : Told) (k : MarkKind) (n : ℕ) (j : MarkKind) → marks (with_kind told k n) j ≡ set_if (same_kind j k) (marks told j) n
 unfolding with_kind set_if
 marks_with told runs n runs = refl
 marks_with told runs n jobs = refl
@@ -74,11 +74,11 @@ marks_with told stops n legs = refl
 marks_with told stops n stops = refl
 
 -- a mark by its kind and number, told by some question or by none
-told_by : Told → Option (Kind × ℕ) → Bool
+told_by : Told → Option (MarkKind × ℕ) → Bool
 told_by told None = false
 told_by told (Some mark) = holds_at (marks told mark.0) mark.1
 
-with_by : Told → Option (Kind × ℕ) → Told
+with_by : Told → Option (MarkKind × ℕ) → Told
 with_by told None = told
 with_by told (Some mark) = with_kind told mark.0 mark.1
 
@@ -103,10 +103,10 @@ with_told-by told (Question.Stop (Member.Leg l)) = refl
 -- ---- what becomes of a mark
 
 -- the mark of a kind and a number is there
-room : Told → Kind → ℕ → Bool
+room : Told → MarkKind → ℕ → Bool
 room told kind n = is_some (slice_get (marks told kind) n)
 
-is_set : Told → Kind → ℕ → Bool
+is_set : Told → MarkKind → ℕ → Bool
 is_set told kind n = holds_at (marks told kind) n
 
 if_room : (c : Bool) (ms : List Bool) (n k : ℕ) → is_some (slice_get (set_if c ms n) k) ≡ is_some (slice_get ms k)
@@ -124,26 +124,26 @@ unfolding set_if
 if_here false ms n k same h = cc
 if_here true ms n k same h = set_here ms n k same h
 
-by_room : (told : Told) (mark : Option (Kind × ℕ)) (kind : Kind) (n : ℕ) → room (with_by told mark) kind n ≡ room told kind n
+by_room : (told : Told) (mark : Option (MarkKind × ℕ)) (kind : MarkKind) (n : ℕ) → room (with_by told mark) kind n ≡ room told kind n
 unfolding with_by room
 by_room told None kind n = refl
 by_room told (Some mark) kind n =
     ap (λ (ms : List Bool). is_some (slice_get ms n)) (marks_with told mark.0 mark.1 kind) ∙ if_room (same_kind kind mark.0) (marks told kind) mark.1 n
 
-by_keeps : (told : Told) (mark : Option (Kind × ℕ)) (kind : Kind) (n : ℕ) → is_set told kind n ≡ true → is_set (with_by told mark) kind n ≡ true
+by_keeps : (told : Told) (mark : Option (MarkKind × ℕ)) (kind : MarkKind) (n : ℕ) → is_set told kind n ≡ true → is_set (with_by told mark) kind n ≡ true
 unfolding with_by is_set
 by_keeps told None kind n h = h
 by_keeps told (Some mark) kind n h =
     ap (λ (ms : List Bool). holds_at ms n) (marks_with told mark.0 mark.1 kind) ∙ if_keeps (same_kind kind mark.0) (marks told kind) mark.1 n h
 
-by_here : (told : Told) (mark : Option (Kind × ℕ)) (kind : Kind) (n : ℕ) → is_marked_by kind n mark ≡ true → room told kind n ≡ true
+by_here : (told : Told) (mark : Option (MarkKind × ℕ)) (kind : MarkKind) (n : ℕ) → is_marked_by kind n mark ≡ true → room told kind n ≡ true
     → is_set (with_by told mark) kind n ≡ true
 unfolding with_by room is_set
 by_here told None kind n same h = cc
 by_here told (Some mark) kind n same h =
     ap (λ (ms : List Bool). holds_at ms n) (marks_with told mark.0 mark.1 kind) ∙ if_here (same_kind kind mark.0) (marks told kind) mark.1 n same h
 
-kinds_equal : (j k : Kind) → same_kind j k ≡ true → (told : Told) → marks told j ≡ marks told k
+kinds_equal : (j k : MarkKind) → same_kind j k ≡ true → (told : Told) → marks told j ≡ marks told k
 kinds_equal runs runs h told = refl
 kinds_equal jobs jobs h told = refl
 kinds_equal legs legs h told = refl
@@ -170,7 +170,7 @@ and_right true b h = h
 and_right false b h = cc
 
 -- who has the mark is told as it says
-same_told : (told : Told) (mark : Option (Kind × ℕ)) (kind : Kind) (n : ℕ) → is_marked_by kind n mark ≡ true → is_set told kind n ≡ told_by told mark
+same_told : (told : Told) (mark : Option (MarkKind × ℕ)) (kind : MarkKind) (n : ℕ) → is_marked_by kind n mark ≡ true → is_set told kind n ≡ told_by told mark
 unfolding told_by is_set
 same_told told None kind n h = cc
 same_told told (Some mark) kind n h =
@@ -180,11 +180,11 @@ same_told told (Some mark) kind n h =
 -- ---- the lines
 
 -- how often a list of lines answers what has this mark: not at all where it was told, and once at most
-record Few (kind : Kind) (n : ℕ) (told : Told) (found : ℕ) : Type 0 where
+record Few (kind : MarkKind) (n : ℕ) (told : Told) (found : ℕ) : Type 0 where
   pub none : is_set told kind n ≡ true → found ≡ 0
   pub few : found ≤ 1
 
-no_line : (kind : Kind) (n : ℕ) (x : Asked) (rest : List Line) → answers kind n (lines_of x true ++ rest) ≡ answers kind n rest
+no_line : (kind : MarkKind) (n : ℕ) (x : Asked) (rest : List Line) → answers kind n (lines_of x true ++ rest) ≡ answers kind n rest
 no_line kind n x rest = by_root (x.depth == 0)
   where
     line : Line
@@ -202,14 +202,14 @@ no_line kind n x rest = by_root (x.depth == 0)
 clash : (b : Bool) → b ≡ true → b ≡ false → ⊥
 clash b set unset = cc
 
-few_lines : (m : ℕ) (a : Account) (asked : List Asked) (told : Told) (kind : Kind) (n : ℕ) → room told kind n ≡ true
+few_lines : (m : ℕ) (a : Account) (asked : List Asked) (told : Told) (kind : MarkKind) (n : ℕ) → room told kind n ≡ true
     → Few kind n told (answers kind n (lines m a asked told))
 few_lines zero a asked told kind n there = record { none = λ set. refl; few = omega arith }
 few_lines (suc m) a [] told kind n there = record { none = λ set. refl; few = omega arith }
 few_lines (suc m) a (x ∷ asked) told kind n there =
     step (is_told told x.question) refl (λ below told' there'. few_lines m a below told' kind n there')
   where
-    mark : Option (Kind × ℕ)
+    mark : Option (MarkKind × ℕ)
     mark = mark_of x.question
 
     new : Told

@@ -3,7 +3,7 @@ use Rattle.expr_value.specs.Seen.{items_seen}
 use Rattle.flow_model.specs.Value.{viewed}
 use Rattle.flow_model.specs.Mapping.{pairs_of}
 use Rattle.flow_model.specs.Plain as plain
-use Rattle.expr_value.specs.Kind.{values}
+use Rattle.expr_value.specs.PlainKind.{values}
 use Rattle.expr_value.proofs.filter.push_values.Given as goal
 
 -- what was added and what is left are all

@@ -3,16 +3,16 @@ use Rattle.std.specs.Prelude.{ℕ, ℤ, Bool, true, false, List, [], ◌∷◌}
 use Rattle.flow_model.specs.Plain as plain
 
 -- A value, but of a list or a map only that it is one.
-pub data Kind : Type 0 where
-  null : Kind
-  truth : Bool → Kind
-  whole : ℤ → Kind
-  text : List ℕ → Kind
-  list : Kind
-  map : Kind
+pub data PlainKind : Type 0 where
+  null : PlainKind
+  truth : Bool → PlainKind
+  whole : ℤ → PlainKind
+  text : List ℕ → PlainKind
+  list : PlainKind
+  map : PlainKind
 
 -- The kind of a value.
-abbrev pub kind_of : plain.Plain → Kind
+abbrev pub kind_of : plain.Plain → PlainKind
 kind_of plain.null = null
 kind_of (plain.truth b) = truth b
 kind_of (plain.whole z) = whole z
@@ -21,7 +21,7 @@ kind_of (plain.list vs) = list
 kind_of (plain.map ms) = map
 
 -- It is a list or a map.
-abbrev pub is_collection : Kind → Bool
+abbrev pub is_collection : PlainKind → Bool
 is_collection null = false
 is_collection (truth b) = false
 is_collection (whole z) = false
