@@ -1,9 +1,9 @@
 -- A change of a board that is noted leaves notes that agree with the board.
-use Rattle.std.proofs.Common.{◌≡◌, ℕ, zero, suc, ◌+◌, ◌-◌, ◌<◌, arith, Bool, true, false, List, [], ◌∷◌, ◌++◌, Option, Some, None, length, map, slice_get, is_some, ap, subst, sym, refl, ◌∙◌}
+use Rattle.std.proofs.Common.{◌≡◌, ℕ, zero, suc, ◌+◌, ◌-◌, ◌<◌, arith, Bool, true, false, List, [], ◌∷◌, ◌++◌, Option, Some, None, length, map, slice_get, is_some, if◌then◌else◌, ap, subst, sym, refl, ◌∙◌}
 use Rattle.std.specs.List.{flat_map, AllZip}
 use Rattle.std.proofs.lemmas.List.{map-append}
 use Rattle.std.proofs.lemmas.Option.{slice_get_within}
-use Rattle.status_table.specs.Words.{Board, DoneStep, Job, JobAt, JobState, Leg, LegAt, LegPlace, LegState, Member, Outcome, Plan, Run, RunState, admitted, board_jobs, board_legs, cancelled, changed, closed, dropped, job_at, leg_changed, leg_place, passed_on, step_done, stopped, waits, with_job, with_leg, with_numbered_leg, with_run}
+use Rattle.status_table.specs.Words.{Board, DoneStep, Each, Job, JobAt, JobState, Leg, LegAt, LegPlace, LegState, Member, Outcome, Plan, Run, RunState, admitted, board_jobs, board_legs, cancelled, changed, closed, dropped, first_place, is_failure, job_at, leg_changed, leg_place, passed_on, step_done, stopped, waits, with_job, with_leg, with_numbered_leg, with_run}
 use Rattle.why_facts.specs.Notes as spec
 use Rattle.why_facts.specs.Notes.{noted}
 use Rattle.why_facts.specs.declared.fact.Change.{Change}
@@ -19,10 +19,10 @@ use Rattle.why_facts.specs.declared.notes.RunNotes.{RunNotes}
 use Rattle.why_facts.specs.declared.notes.StepNote.{StepNote}
 use Rattle.why_facts.specs.declared.notes.StopNote.{StopNote}
 use Rattle.why_notes.specs.Laws.{judged_to}
-use Rattle.why_causes.specs.Agrees.{Agrees, JobAgrees, JobNow, LegAgrees, LegNow, LegStill, RunAgrees}
+use Rattle.why_causes.specs.Agrees.{Agrees, FailureIs, JobAgrees, JobNow, LegAgrees, LegNow, LegStill, ResultIs, ResultNow, RunAgrees}
 use Rattle.why_causes.specs.Stands.{RunIs, outcome_told}
 use Rattle.why_causes.proofs.Members.{KeepsJobs, job_legs}
-use Rattle.status_table.proofs.Found.{JobStands, LegStands, job_stands}
+use Rattle.status_table.proofs.Found.{JobStands, LegStands, job_stands, leg_item}
 use Rattle.status_table.proofs.Lists.{changed-cons, changed-left, changed-right, flat_map-kept, flat_map-twice, zip-changed}
 use Rattle.board_decisions.proofs.Lists.{no_some, same_some}
 use Rattle.status_table.proofs.Numbers.{jobs_before, jobs_of, number_of_job, numbered_leg-changed}
@@ -157,7 +157,7 @@ waits_agrees b notes name (Member.Run r) holds line =
     (λ run. refl) (λ n run _ _ a. record { state = refl; told = a.told })
 waits_agrees b notes name (Member.Leg l) holds line =
     leg_agrees b notes l (λ leg. record leg { state = LegState.Waiting; group = Some name }) (λ leg. record leg { last = Some (record { line = line; fact = MemberFact.Waits holds }) })
-    (λ n leg _ _ a. record { state = refl; told = a.told; steps = a.steps })
+    (λ n leg _ _ a. record { state = refl; told = a.told; steps = a.steps; result = tt; failures = a.failures })
 
 pub admitted_agrees : (b : Board) (notes : Notes) (name : Option (List ℕ)) (m : Member) (line : ℕ) → Agrees b notes
     → Agrees (admitted b name m) (noted line notes (Change.Member m MemberFact.Admitted))
@@ -166,7 +166,7 @@ admitted_agrees b notes name (Member.Run r) line =
     (λ run. refl) (λ n run _ _ a. record { state = refl; told = a.told })
 admitted_agrees b notes name (Member.Leg l) line =
     leg_agrees b notes l (λ leg. record leg { state = LegState.Admitted; group = name }) (λ leg. record leg { last = Some (record { line = line; fact = MemberFact.Admitted }) })
-    (λ n leg _ _ a. record { state = refl; told = a.told; steps = a.steps })
+    (λ n leg _ _ a. record { state = refl; told = a.told; steps = a.steps; result = tt; failures = a.failures })
 
 pub passed_agrees : (b : Board) (notes : Notes) (m before : Member) (line : ℕ) → Agrees b notes
     → Agrees (passed_on b (Some m)) (noted line notes (Change.Member m (MemberFact.Follows before)))
@@ -175,7 +175,7 @@ passed_agrees b notes (Member.Run r) before line =
     (λ run. refl) (λ n run _ _ a. record { state = refl; told = a.told })
 passed_agrees b notes (Member.Leg l) before line =
     leg_agrees b notes l (λ leg. record leg { state = LegState.Admitted }) (λ leg. record leg { last = Some (record { line = line; fact = MemberFact.Follows before }) })
-    (λ n leg _ _ a. record { state = refl; told = a.told; steps = a.steps })
+    (λ n leg _ _ a. record { state = refl; told = a.told; steps = a.steps; result = tt; failures = a.failures })
 
 pub closed_agrees : (b : Board) (notes : Notes) (r : ℕ) (result : Outcome) (fact : MemberFact) (line : ℕ) → RunIs fact (RunState.Closed result) → Agrees b notes
     → Agrees (closed b r result) (noted line notes (Change.Member (Member.Run r) fact))
@@ -183,16 +183,16 @@ closed_agrees b notes r result fact line is =
     run_agrees b notes r (λ run. record run { state = RunState.Closed result }) (λ run. record run { last = Some (record { line = line; fact = fact }) })
     (λ run. refl) (λ n run _ _ a. record { state = is; told = a.told })
 
-pub dropped_agrees : (b : Board) (notes : Notes) (l : ℕ) (result : Outcome) (fact : MemberFact) (line : ℕ) → LegStill fact (LegState.Ended result false) → Agrees b notes
-    → Agrees (dropped b l result) (noted line notes (Change.Member (Member.Leg l) fact))
-dropped_agrees b notes l result fact line is h =
+pub dropped_agrees : (b : Board) (notes : Notes) (l : ℕ) (result : Outcome) (fact : MemberFact) (line : ℕ) → LegStill fact (LegState.Ended result false)
+    → ((steps : List DoneStep) → ResultIs fact steps) → Agrees b notes → Agrees (dropped b l result) (noted line notes (Change.Member (Member.Leg l) fact))
+dropped_agrees b notes l result fact line is unfinished h =
     same_agrees (with_numbered_leg b l (λ leg. record leg { state = LegState.Ended result false })) (dropped b l result) (noted line notes (Change.Member (Member.Leg l) fact)) refl
     (leg_agrees b notes l (λ leg. record leg { state = LegState.Ended result false }) (λ leg. record leg { last = Some (record { line = line; fact = fact }) })
-    (λ n leg _ _ a. record { state = is; told = a.told; steps = a.steps }) h)
+    (λ n leg _ _ a. record { state = is; told = a.told; steps = a.steps; result = unfinished leg.steps; failures = a.failures }) h)
 
 pub displaced_agrees : (b : Board) (notes : Notes) (m by : Member) (line : ℕ) → Agrees b notes → Agrees (cancelled b m) (noted line notes (Change.Member m (MemberFact.Displaced by)))
 displaced_agrees b notes (Member.Run r) by line = closed_agrees b notes r Outcome.Cancelled (MemberFact.Displaced by) line refl
-displaced_agrees b notes (Member.Leg l) by line = dropped_agrees b notes l Outcome.Cancelled (MemberFact.Displaced by) line refl
+displaced_agrees b notes (Member.Leg l) by line = dropped_agrees b notes l Outcome.Cancelled (MemberFact.Displaced by) line refl (λ steps. tt)
 
 -- the first teller is noted
 pub first_told : (first : Option StopNote) (note : StopNote) → is_some (spec.first_of first note) ≡ true
@@ -205,19 +205,24 @@ told_agrees b notes (Member.Run r) tells line =
     (λ run. refl) (λ n run _ _ a. record { state = a.state; told = first_told n.stop (record { line = line; teller = tells }) })
 told_agrees b notes (Member.Leg l) tells line =
     leg_agrees b notes l (λ leg. record leg { stop = true }) (λ leg. record leg { stop = spec.first_of leg.stop (record { line = line; teller = tells }) })
-    (λ n leg _ _ a. record { state = a.state; told = first_told n.stop (record { line = line; teller = tells }); steps = a.steps })
+    (λ n leg _ _ a. record { state = a.state; told = first_told n.stop (record { line = line; teller = tells }); steps = a.steps; result = a.result; failures = a.failures })
 
 -- ---- legs at work
 
+same_steps : (legs : List Leg) (l : ℕ) (one other : Leg) → slice_get legs l ≡ Some one → slice_get legs l ≡ Some other → other.steps ≡ one.steps
+same_steps legs l one other here there = ap (λ (leg : Leg). leg.steps) (same_some other one (sym there ∙ here))
+
 -- a leg ends, or is taken
 pub member_agrees : (p : Plan) (b : Board) (notes : Notes) (l : ℕ) (at : LegAt) (f : Leg → Leg) (fact : MemberFact) (line : ℕ) → LegStands p b l at
-    → ((leg : Leg) → LegStill fact (f leg).state) → ((leg : Leg) → (f leg).stop ≡ leg.stop) → ((leg : Leg) → (f leg).steps ≡ leg.steps) → Agrees b notes
-    → Agrees (with_leg b at.place f) (noted line notes (Change.Member (Member.Leg l) fact))
-member_agrees p b notes l at f fact line stands state stop steps =
-    put_agrees p b notes l at f (λ leg. record leg { last = Some (record { line = line; fact = fact }) }) stands (λ n leg _ _ a. record {
+    → ((leg : Leg) → LegStill fact (f leg).state) → ((leg : Leg) → (f leg).stop ≡ leg.stop) → ((leg : Leg) → (f leg).steps ≡ leg.steps) → ResultIs fact at.leg.steps
+    → Agrees b notes → Agrees (with_leg b at.place f) (noted line notes (Change.Member (Member.Leg l) fact))
+member_agrees p b notes l at f fact line stands state stop steps result =
+    put_agrees p b notes l at f (λ leg. record leg { last = Some (record { line = line; fact = fact }) }) stands (λ n leg _ there a. record {
       state = state leg;
       told = a.told ∙ sym (stop leg);
       steps = a.steps ∙ ap (map (λ (done : DoneStep). done.outcome)) (sym (steps leg));
+      result = subst (ResultIs fact) (sym (same_steps (board_legs b) l at.leg leg (leg_item p b l at stands) there) ∙ sym (steps leg)) result;
+      failures = subst (λ (xs : List DoneStep). Each (λ (note : StepNote). FailureIs xs note.fact) n.steps) (sym (steps leg)) a.failures;
     })
 
 pub ends_agree : (b : Board) (notes : Notes) (ends : List ℕ) → Agrees b notes → Agrees (record b { ends = ends }) notes
@@ -239,6 +244,52 @@ still_taken (MemberFact.Finished result) w v c d h = absurd (no h.0 h.1)
     no t e = cc
 still_taken (MemberFact.Stopped cause) w v c d h = cc
 
+-- of a leg at work no end is told
+no_end : (fact : MemberFact) (w : ℕ) (c : Bool) (steps : List DoneStep) → LegStill fact (LegState.Running w c) → ResultIs fact steps
+no_end MemberFact.Admitted w c steps h = tt
+no_end (MemberFact.Waits holder) w c steps h = tt
+no_end (MemberFact.Follows before) w c steps h = tt
+no_end (MemberFact.Displaced by) w c steps h = tt
+no_end MemberFact.OwnRun w c steps h = tt
+no_end (MemberFact.NoGroup f) w c steps h = tt
+no_end (MemberFact.Closed result) w c steps h = tt
+no_end MemberFact.Taken w c steps h = tt
+no_end (MemberFact.Finished result) w c steps h = absurd (no h.0 h.1)
+  where
+    no : (t : Bool) → LegState.Running w c ≡ LegState.Ended result t → ⊥
+    no t e = cc
+no_end (MemberFact.Stopped cause) w c steps h = tt
+
+no_end_now : (last : Option MemberNote) (w : ℕ) (c : Bool) (steps : List DoneStep) → LegNow last (LegState.Running w c) → ResultNow last steps
+no_end_now None w c steps h = tt
+no_end_now (Some note) w c steps h = no_end note.fact w c steps h
+
+-- what was the first to pass a test is so with an item more
+first_more : {T : Type 0} (k : ℕ) (test : T → Bool) (xs : List T) (x : T) (first : ℕ) → first_place k test xs ≡ Some first → first_place k test (xs ++ x ∷ []) ≡ Some first
+first_more k test [] x first h = absurd (no_some first h)
+first_more {T} k test (y ∷ ys) x first h = by (test y) h (first_more (suc k) test ys x first)
+  where
+    by : (c : Bool) → (if c then Some k else first_place (suc k) test ys) ≡ Some first
+        → (first_place (suc k) test ys ≡ Some first → first_place (suc k) test (ys ++ x ∷ []) ≡ Some first)
+        → (if c then Some k else first_place (suc k) test (ys ++ x ∷ [])) ≡ Some first
+    by true is later = is
+    by false is later = later is
+
+failure_more : (steps : List DoneStep) (done : DoneStep) (fact : StepFact) → FailureIs steps fact → FailureIs (steps ++ done ∷ []) fact
+failure_more steps done (StepFact.AfterFailure first) h = first_more 0 (λ (step : DoneStep). is_failure step.conclusion) steps done first h
+failure_more steps done (StepFact.Exited code) h = tt
+failure_more steps done StepFact.NotStarted h = tt
+failure_more steps done StepFact.BadOutput h = tt
+failure_more steps done (StepFact.Stopping cause) h = tt
+failure_more steps done StepFact.Untrue h = tt
+failure_more steps done (StepFact.Faulted text f) h = tt
+
+each_more : {T : Type 0} (P : T → Type 0) (xs : List T) (x : T) → Each P xs → P x → Each P (xs ++ x ∷ [])
+each_more P [] x all one zero y is = subst P (same_some x y is) one
+each_more P [] x all one (suc i) y is = absurd (no_some y is)
+each_more P (z ∷ zs) x all one zero y is = all 0 y is
+each_more {T} P (z ∷ zs) x all one (suc i) y is = each_more P zs x (λ k w at. all (suc k) w at) one i y is
+
 still : (last : Option MemberNote) (w v : ℕ) (c d : Bool) → LegNow last (LegState.Running w c) → LegNow last (LegState.Running v d)
 still None w v c d h = cc
 still (Some note) w v c d h = still_taken note.fact w v c d h
@@ -251,12 +302,14 @@ called_agrees p b notes l at owner worker line stands item idle =
       state = still n.last owner worker false true (subst (LegNow n.last) (ap (λ (x : Leg). x.state) (same_some leg at.leg (sym is ∙ item)) ∙ idle) a.state);
       told = a.told;
       steps = a.steps;
+      result = no_end_now n.last owner false leg.steps (subst (LegNow n.last) (ap (λ (x : Leg). x.state) (same_some leg at.leg (sym is ∙ item)) ∙ idle) a.state);
+      failures = a.failures;
     })
 
 pub step_agrees : (p : Plan) (b : Board) (notes : Notes) (l : ℕ) (at : LegAt) (owner worker : ℕ) (in_call : Bool) (done : DoneStep) (fact : StepFact) (line : ℕ) → LegStands p b l at
-    → slice_get (board_legs b) l ≡ Some at.leg → at.leg.state ≡ LegState.Running owner in_call → done.outcome ≡ outcome_told fact → Agrees b notes
+    → slice_get (board_legs b) l ≡ Some at.leg → at.leg.state ≡ LegState.Running owner in_call → done.outcome ≡ outcome_told fact → FailureIs at.leg.steps fact → Agrees b notes
     → Agrees (step_done b at.place worker done) (noted line notes (Change.Step l fact))
-step_agrees p b notes l at owner worker in_call done fact line stands item busy is =
+step_agrees p b notes l at owner worker in_call done fact line stands item busy is failure =
     put_agrees p b notes l at (λ leg. record leg { state = LegState.Running worker false; steps = leg.steps ++ done ∷ [] })
     (λ leg. record leg { steps = leg.steps ++ (record { line = line; fact = fact }) ∷ [] }) stands (λ n leg _ there a. record {
       state = still n.last owner worker in_call false (subst (LegNow n.last) (ap (λ (x : Leg). x.state) (same_some leg at.leg (sym there ∙ item)) ∙ busy) a.state);
@@ -266,4 +319,9 @@ step_agrees p b notes l at owner worker in_call done fact line stands item busy 
           ∙ ap (λ xs. xs ++ outcome_told fact ∷ []) a.steps
           ∙ ap (λ x. map (λ (done : DoneStep). done.outcome) leg.steps ++ x ∷ []) (sym is)
           ∙ sym (map-append (λ (done : DoneStep). done.outcome) leg.steps (done ∷ []));
+      result = no_end_now n.last owner in_call (leg.steps ++ done ∷ []) (subst (LegNow n.last) (ap (λ (x : Leg). x.state) (same_some leg at.leg (sym there ∙ item)) ∙ busy) a.state);
+      failures =
+          each_more (λ (note : StepNote). FailureIs (leg.steps ++ done ∷ []) note.fact) n.steps (record { line = line; fact = fact })
+          (λ i x at. failure_more leg.steps done x.fact (a.failures i x at))
+          (failure_more leg.steps done fact (subst (λ (xs : List DoneStep). FailureIs xs fact) (sym (same_steps (board_legs b) l at.leg leg item there)) failure));
     })

@@ -15,7 +15,7 @@ use Rattle.why_notes.specs.Changes as causes
 use Rattle.why_notes.specs.Changes.{changes}
 use Rattle.why_notes.specs.Conditions.{waits_in_vain, faulted_text}
 use Rattle.why_notes.specs.Laws.{judged_to}
-use Rattle.why_causes.specs.Agrees.{LegStill}
+use Rattle.why_causes.specs.Agrees.{FailureIs, LegStill, ResultIs, steps_result}
 use Rattle.why_causes.specs.Becomes.{Becomes, ChangesBecomeSo}
 use Rattle.why_causes.specs.Stands.{IsCalled, LegIs, MemberStands, outcome_told}
 use Rattle.status_table.specs.declared.fault.EventFault.{EventFault}
@@ -72,7 +72,7 @@ taken p b new worker l (Some at) reply is h = by_state at.leg.state refl h
         ))
         (put_quiet p b l at (λ leg. record leg { state = LegState.Running worker false }) stands (λ leg. refl))
         (λ line notes a.
-        member_agrees p b notes l at (λ leg. record leg { state = LegState.Running worker false }) MemberFact.Taken line stands (λ leg. (worker, (false, refl))) (λ leg. refl) (λ leg. refl) a))
+        member_agrees p b notes l at (λ leg. record leg { state = LegState.Running worker false }) MemberFact.Taken line stands (λ leg. (worker, (false, refl))) (λ leg. refl) (λ leg. refl) tt a))
       where
         no : (s : LegState) → s ≡ LegState.Admitted → LegIs MemberFact.Taken s → ⊥
         no s x y = differs y.0 (sym x ∙ y.1)
@@ -119,13 +119,13 @@ step_becomes p b worker l at done fact stands is = record {
 }
 
 step_so : (p : Plan) (b : Board) (owner worker l : ℕ) (in_call : Bool) (at : LegAt) (done : DoneStep) (fact : StepFact) → LegStands p b l at
-    → at.leg.state ≡ LegState.Running owner in_call → done.outcome ≡ outcome_told fact
+    → at.leg.state ≡ LegState.Running owner in_call → done.outcome ≡ outcome_told fact → FailureIs at.leg.steps fact
     → Goes b (table.step_done b at.place worker done) (Change.Step l fact ∷ [])
-step_so p b owner worker l in_call at done fact stands busy is =
+step_so p b owner worker l in_call at done fact stands busy is failure =
     quietly b (table.step_done b at.place worker done) (Change.Step l fact ∷ [])
     (only (Becomes b (table.step_done b at.place worker done)) (Change.Step l fact) (step_becomes p b worker l at done fact stands is))
     (put_quiet p b l at (λ leg. record leg { state = LegState.Running worker false; steps = leg.steps ++ done ∷ [] }) stands (λ leg. refl))
-    (λ line notes a. step_agrees p b notes l at owner worker in_call done fact line stands (leg_item p b l at stands) busy is a)
+    (λ line notes a. step_agrees p b notes l at owner worker in_call done fact line stands (leg_item p b l at stands) busy is failure a)
 
 -- a step that is skipped is told to be
 skipped_told : (l : ℕ) (at : LegAt) (step : StepPlan) → Outcome.Skipped ≡ outcome_told (causes.skipped l at step)
@@ -142,6 +142,23 @@ skipped_told l at step = by (waits_in_vain step.condition (leg_status at))
     by : (c : Bool) → Outcome.Skipped ≡ outcome_told (causes.skipped_by c l at)
     by true = vain (is_stopping at)
     by false = refl
+
+-- and the failure after which it is
+skipped_after : (l : ℕ) (at : LegAt) (step : StepPlan) → FailureIs at.leg.steps (causes.skipped l at step)
+skipped_after l at step = by (waits_in_vain step.condition (leg_status at))
+  where
+    after : (first : Option ℕ) → groups.first_place 0 (λ (step : DoneStep). is_failure step.conclusion) at.leg.steps ≡ first
+        → FailureIs at.leg.steps (causes.after_failure first)
+    after None is = tt
+    after (Some k) is = is
+
+    vain : (stopping : Bool) → FailureIs at.leg.steps (causes.skipped_in_vain stopping l at)
+    vain true = tt
+    vain false = after (groups.first_place 0 (λ (step : DoneStep). is_failure step.conclusion) at.leg.steps) refl
+
+    by : (c : Bool) → FailureIs at.leg.steps (causes.skipped_by c l at)
+    by true = vain (is_stopping at)
+    by false = tt
 
 begun : (p : Plan) (b new : Board) (worker l : ℕ) (found : Option LegAt) (reply : Reply) → leg_at p b l ≡ found → table.begin_found b worker l found ≡ Ok (new, reply)
     → Goes b new (causes.begins l found)
@@ -171,10 +188,10 @@ begun p b new worker l (Some at) reply is h = by_owner (table.idle_owner at.leg.
         (λ line notes a. called_agrees p b notes l at owner worker line stands (leg_item p b l at stands) idle a))
     by_decision owner idle step (Ok None) k =
         led b _ _ new reply k
-        (step_so p b owner worker l false at table.skipped_step (causes.skipped l at step) stands idle (skipped_told l at step))
+        (step_so p b owner worker l false at table.skipped_step (causes.skipped l at step) stands idle (skipped_told l at step) (skipped_after l at step))
     by_decision owner idle step (Err f) k =
         led b _ _ new reply k
-        (step_so p b owner worker l false at (table.failed_step at) (StepFact.Faulted (faulted_text at step) f) stands idle refl)
+        (step_so p b owner worker l false at (table.failed_step at) (StepFact.Faulted (faulted_text at step) f) stands idle refl tt)
 
     by_worker : (mine : Bool) (owner : ℕ) → at.leg.state ≡ LegState.Running owner false → (step : StepPlan)
         → table.begin_leg b worker at (if mine then Ok (decided (step_decision l at step)) else Err EventFault.OtherWorker) ≡ Ok (new, reply)
@@ -195,6 +212,11 @@ answer_told (Answer.Exit (negsuc n) outputs env) = refl
 answer_told Answer.NotStarted = refl
 answer_told Answer.BadOutput = refl
 
+answer_after : (steps : List DoneStep) (a : Answer) → FailureIs steps (causes.answered a)
+answer_after steps (Answer.Exit code outputs env) = tt
+answer_after steps Answer.NotStarted = tt
+answer_after steps Answer.BadOutput = tt
+
 ended : (p : Plan) (b new : Board) (worker l : ℕ) (a : Answer) (found : Option LegAt) (reply : Reply) → leg_at p b l ≡ found → table.end_found b worker a found ≡ Ok (new, reply)
     → Goes b new (Change.Step l (causes.answered a) ∷ [])
 unfolding board_of
@@ -208,7 +230,7 @@ ended p b new worker l a (Some at) reply is h = by_owner (table.calling_owner at
     tested owner true false busy k = cc
     tested owner true true busy k =
         led b _ _ new reply k
-        (step_so p b owner worker l true at (table.answered_step at a) (causes.answered a) (leg_stands p b l at is) busy (answer_told a))
+        (step_so p b owner worker l true at (table.answered_step at a) (causes.answered a) (leg_stands p b l at is) busy (answer_told a) (answer_after at.leg.steps a))
 
     by_owner : (owner : Option ℕ) → table.calling_owner at.leg.state ≡ owner → table.end_leg b worker at (table.ending_by worker at a owner) ≡ Ok (new, reply) → Goes b new (Change.Step l (causes.answered a) ∷ [])
     by_owner None calling k = cc
@@ -255,10 +277,15 @@ finished p b new worker l (Some at) reply is h = by_owner (table.idle_owner at.l
     still true stops = told true stops
     still false stops = told false stops
 
+    -- and so is its result, where it is not to stop
+    result : (stopping : Bool) → is_stopping at ≡ stopping → ResultIs (causes.finished stopping l at) at.leg.steps
+    result true stops = tt
+    result false stops = ap (λ (c : Bool). if c then Outcome.Cancelled else steps_result at.leg.steps) stops
+
     note : Noting b after (Change.Member (Member.Leg l) (causes.finished (is_stopping at) l at) ∷ [])
     note line notes a =
         ends_agree (with_leg b at.place put) (noted line notes (Change.Member (Member.Leg l) (causes.finished (is_stopping at) l at))) (b.ends ++ l ∷ [])
-        (member_agrees p b notes l at put (causes.finished (is_stopping at) l at) line stands (λ leg. still (is_stopping at) refl) (λ leg. refl) (λ leg. refl) a)
+        (member_agrees p b notes l at put (causes.finished (is_stopping at) l at) line stands (λ leg. still (is_stopping at) refl) (λ leg. refl) (λ leg. refl) (result (is_stopping at) refl) a)
 
     not_ended : (owner : ℕ) (stopping : Bool) → at.leg.state ≡ LegState.Running owner false → MemberStands b (Member.Leg l) (causes.finished stopping l at) → ⊥
     not_ended owner true idle = leg_clash (leg_in (LegState.Running owner false)) (leg_in (LegState.Ended Outcome.Cancelled false)) b l (λ s told x y. cc) (at.leg, item, idle)

@@ -137,7 +137,7 @@ all_made p b (Event.Finish l) = finished p b (Event.Finish l) l (leg_at p b l)
 all_made p b (Event.Close r) = closed p b (Event.Close r) r (run_at p b r) refl refl
 all_made p b (Event.Cancel r) = (tt, tt)
 
-among : {T : Type 0} (P : T → Type 0) (xs : List T) (x : T) → AllByRecursion P xs → Contains xs x → P x
+pub among : {T : Type 0} (P : T → Type 0) (xs : List T) (x : T) → AllByRecursion P xs → Contains xs x → P x
 among P [] x all there = absurd (contains_none x there)
 among P (y ∷ ys) x all there = elim (contains_cases y ys x there) as (λ _. P x) [
   | inl e ↦ subst P e all.0

@@ -147,7 +147,7 @@ own_so b (Member.Leg l) own holds asks is out =
       leg_clash (leg_in LegState.Fresh) (leg_in (LegState.Ended Outcome.Cancelled false)) b l (λ s told x y. cc) out,
       cancelled_there b (Member.Leg l) (exists (run_in RunState.New) (leg_in LegState.Fresh) b (Member.Leg l) out),
     ))
-    (cancelled_quiet b (Member.Leg l)) (λ line notes h. dropped_agrees b notes l Outcome.Cancelled MemberFact.OwnRun line refl h)
+    (cancelled_quiet b (Member.Leg l)) (λ line notes h. dropped_agrees b notes l Outcome.Cancelled MemberFact.OwnRun line refl (λ steps. tt) h)
 
 held_so : (b : Board) (m : Member) (own : Option ℕ) (group : Entrance) (holds waited : Option Member) → holder b group.name ≡ holds → waiter b group.name ≡ waited
     → Asks m own → Outside b m → Goes b (groups.enters_held b m own group holds waited).0 (causes.enters_held m own group holds waited)
@@ -215,7 +215,7 @@ leg_entered b new l at (Err f) reply out h =
       leg_clash (leg_in LegState.Fresh) (leg_in (LegState.Ended Outcome.Failure false)) b l (λ s told x y. cc) out,
       dropped_there any_run any_run b l Outcome.Failure (exists (run_in RunState.New) (leg_in LegState.Fresh) b (Member.Leg l) out),
     ))
-    (dropped_quiet b l Outcome.Failure) (λ line notes a. dropped_agrees b notes l Outcome.Failure (MemberFact.NoGroup f) line refl a))
+    (dropped_quiet b l Outcome.Failure) (λ line notes a. dropped_agrees b notes l Outcome.Failure (MemberFact.NoGroup f) line refl (λ steps. tt) a))
 
 pub asked : (p : Plan) (b new : Board) (l : ℕ) (found : Option LegAt) (reply : Reply) → leg_at p b l ≡ found → table.ask_found b l found ≡ Ok (new, reply)
     → Goes b new (causes.asks b l found)
@@ -295,4 +295,4 @@ dropped_so p b new l (Some at) reply is h = guarded (table.may_drop at) (is_stop
         (at.leg, item, and-right (is_going at.run.state && is_open at.job.state) (is_untaken at.leg.state) ready))
         (dropped_there any_run any_run b l Outcome.Cancelled (at.leg, item, tt))
         (λ w x. cancelled_exists b (Member.Leg l) w x) (dropped_quiet b l Outcome.Cancelled)
-        (λ line notes a. dropped_agrees b notes l Outcome.Cancelled (MemberFact.Stopped (cause_of_stop l at)) line refl a))
+        (λ line notes a. dropped_agrees b notes l Outcome.Cancelled (MemberFact.Stopped (cause_of_stop l at)) line refl (λ steps. tt) a))

@@ -13,6 +13,7 @@ mod Noting
 mod Obstacles
 pub mod OpenedJobs
 mod Past
+pub mod Reasons
 mod SkippedJobs
 mod Staying
 mod Telling

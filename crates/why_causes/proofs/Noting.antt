@@ -446,7 +446,7 @@ new_agrees p = record {
   jobs = run_agrees empty [] p.runs tt;
   legs = subst (λ ns. AllZip LegAgrees ns (board_legs (new_board p))) (sym (leg_notes empty p.runs))
       (subst (AllZip LegAgrees (map (λ leg. new_leg_notes) (combos_of (flat_map (λ run. run.jobs) p.runs)))) (sym (new_legs p))
-      (zip_maps LegAgrees new_leg_notes new_leg (combos_of (flat_map (λ run. run.jobs) p.runs)) (λ leg. record { state = refl; told = refl; steps = refl })));
+      (zip_maps LegAgrees new_leg_notes new_leg (combos_of (flat_map (λ run. run.jobs) p.runs)) (λ leg. record { state = refl; told = refl; steps = refl; result = tt; failures = λ i x at. absurd (no_some x at) })));
 }
   where
     empty : Notes

@@ -5,5 +5,6 @@ pub mod Endings
 pub mod Made
 pub mod Obstacles
 pub mod Once
+pub mod Reasons
 pub mod Stands
 pub mod Tree

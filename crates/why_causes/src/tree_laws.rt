@@ -3,6 +3,7 @@
 ghost use Rattle.why_causes.specs.Endings.{EndingsAreNamed};
 ghost use Rattle.why_causes.specs.Obstacles.{ObstaclesAreNamed};
 ghost use Rattle.why_causes.specs.Once.{NothingIsAskedTwice};
+ghost use Rattle.why_causes.specs.Reasons.{ReasonsAreNamed};
 
 use flow_model::laws::{needs_point_back, rules_hold};
 
@@ -29,4 +30,14 @@ pub fn endings_are_named()
 {
     rules_hold();
     needs_point_back();
+}
+
+/// Below a run or a leg that waits stands who held its group when it came to wait. Below a leg that has ended stand the first of
+/// its steps that counts as a failure, or the cause for which it was to stop; below one that has not, its call, its job, or who takes
+/// the slots; below a step that was skipped, the first failure before it or the cause for which its leg was to stop. Beside these
+/// only that a run or a leg was told to stop is named there.
+pub fn reasons_are_named()
+    ensures { ReasonsAreNamed }
+{
+    rules_hold();
 }
