@@ -191,6 +191,17 @@ class Growing(Case):
         self.assertTrue(now - 1000 < first < now + 60000 and later[-1] >= 200, (now, first, later))
         self.assertFalse(self.part.exists())
 
+    def test_a_file_that_cannot_be_written_to_is_named_at_once(self) -> None:
+        """It is named before the next step starts; the record is whole."""
+        error = self.room / "error"
+        plan = self.plan([{"run": f"cp {error} first"}, {"run": f"cp {error} second"}])
+        words = self.words(plan, "--record", str(self.record), "--times", "/dev/full")
+        answer = self.run_words(["sh", "-c", f'exec "$@" 2>{error}', "sh", *words])
+        told = "actrun: /dev/full cannot be written (no storage space); the plan is executed all the same\n"
+        self.assertEqual((answer.returncode, answer.stdout), (0, "run 0 success\n"))
+        self.assertEqual([it.read_text(encoding="utf-8") for it in (self.work / "first", self.work / "second", error)], [told] * 3)
+        self.assertIn(b'"close"', self.lines(self.record)[-1])
+
     def test_a_folder_that_is_missing_is_named_and_the_plan_executed(self) -> None:
         plan = self.plan([{"run": "echo shown"}])
         for folder, why in ((self.room / "none", "entity not found"), (Path("/sys"), "permission denied")):
@@ -234,13 +245,32 @@ class Growing(Case):
         small = self.room / "small"
         self.mount(small)
         plan = self.plan([{"run": "printf 'word=%09000d\\n' 1 >> $GITHUB_OUTPUT"}] * 12)
+        told = f"actrun: {small}/r.part cannot be written (no storage space); the plan is executed all the same\nactrun: io\n"
         for before in (set(), {"r"}):
             (small / "r").write_text("before", encoding="utf-8") if before else None
             answer = self.run_words(self.words(plan, "--record", str(small / "r")))
-            self.assertEqual((answer.returncode, answer.stdout, answer.stderr), (3, "run 0 success\n", "actrun: io\n"))
+            self.assertEqual((answer.returncode, answer.stdout, answer.stderr), (3, "run 0 success\n", told))
             self.assertGreater(len(self.lines(small / "r.part")), 10)
             self.assertEqual({it.name for it in small.iterdir()}, {"r.part", *before})
         self.assertEqual((small / "r").read_text(encoding="utf-8"), "before")
+
+    @unittest.skipUnless(os.geteuid() == 0, "only root can mount a small file system")
+    def test_a_terminal_gets_how_far_the_record_is(self) -> None:
+        small = self.room / "small"
+        self.mount(small)
+        reader, writer = pty.openpty()
+        for end in (reader, writer):
+            self.addCleanup(os.close, end)
+        early = [f"actrun: {small}/r.part cannot be written (no storage space); the plan is executed all the same"]
+        for steps, first, kept in ((12, early, r"r\.part ends at line \d+, before all runs are closed: "), (4, [], r"r\.part has the whole record: ")):
+            plan = self.plan([{"run": "printf 'word=%09000d\\n' 1 >> $GITHUB_OUTPUT"}] * steps)
+            words = self.script(*self.words(plan, "--record", str(small / "r")))
+            done = subprocess.run(words, stdin=subprocess.DEVNULL, stdout=subprocess.DEVNULL, stderr=writer, timeout=60, check=False)
+            shown = os.read(reader, 65536).decode().splitlines()
+            *told, last = shown
+            self.assertEqual((done.returncode, told), (3, [*first, "actrun: io", f"  {small}: No space left on device: make room there, or name "
+                                                           "another place, and start again"]))
+            self.assertRegex(last, f"^  {small}/{kept}")
 
     def test_many_legs(self) -> None:
         """The part grows to the record, which has each leg once."""

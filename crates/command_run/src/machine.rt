@@ -11,7 +11,7 @@ ghost use Rattle.command_run.specs.Stubs.{Stubs};
 
 use crate::environment::{Environment, variables};
 use crate::growing::GrowingFile;
-use crate::growing_files::{GrowingFiles, GrowingNames, part_name};
+use crate::growing_files::{GrowingFiles, GrowingNames, PART, name_beside};
 use crate::progress::Progress;
 use crate::step_names::StepNames;
 use crate::whole_file::put_file;
@@ -157,7 +157,7 @@ impl Machine for HostRuntime {
     }
 
     fn remove_grown(&self, alloc: Global, name: &str) {
-        if let Ok(part) = part_name(alloc, name) {
+        if let Ok(part) = name_beside(alloc, name, PART) {
             drop(fs::remove_file(self, part.as_str()));
         }
     }
