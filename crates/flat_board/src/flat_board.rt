@@ -58,7 +58,7 @@ impl FlatBoard {
         Ok(FlatBoard { play })
     }
 
-    /// The board, without a copy: what `lend` gives, and that its groups have names as `holder` and `next_after_leg` want them.
+    /// The board, as `lend` gives it; its groups have names as `holder` and `next_after_leg` want them.
     pub fn board(&self) -> &Board
         ensures board { result.now ≡ self.now.board }
         ensures in_play { InPlay self.now.plan self.now.board }
