@@ -679,7 +679,7 @@ function zoom(factor) {
 
 function relayout() {
   tree = parseInt(getComputedStyle(document.documentElement).getPropertyValue('--tree'), 10);
-  laneWidth = Math.max(100, $('rows').clientWidth - tree - 22); // (the last marks have room)
+  laneWidth = Math.max(40, $('rows').clientWidth - tree - 22); // (the last marks have room)
   forget();
   drawAxis();
   draw();

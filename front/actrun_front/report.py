@@ -8,12 +8,13 @@ import html
 import json
 import os
 import pathlib
+import subprocess
 import sys
 from typing import Any
 
 from . import Problem
 from .dap_logs import plan_masks
-from .dap_record import Record
+from .dap_record import Record, refused
 from .report_data import CONTROL, Boards, Reasons, answer, job_results, read_logs, read_times
 
 HERE = pathlib.Path(__file__).resolve().parent
@@ -64,12 +65,16 @@ def shown(program: str, path: pathlib.Path, logs: pathlib.Path | None = None, ti
 
 def read_record(program: str, path: pathlib.Path) -> Record:
     """The record of a file, which `replay` checks later."""
+    if path.exists() and not path.is_file() and not path.is_dir():
+        raise Problem(f"{path}: this is no regular file, and the record is read several times: write it into a file")
     try:
         return Record(program, path.read_bytes())
     except OSError as fault:
         raise Problem(f"{path}: {fault.strerror}: name a file that `actrun run --record` or `try` wrote") from None
     except (ValueError, KeyError, TypeError, IndexError):
-        raise Problem(f"{path}: this is no record: name a file that `actrun run --record` or `try` wrote") from None
+        done = subprocess.run([program, "replay", path], stdout=subprocess.DEVNULL, stderr=subprocess.PIPE, check=False)
+        line = done.stderr.decode("utf-8", "replace").strip()
+        raise refused(path, line or "this is no record: name a file that `actrun run --record` or `try` wrote") from None
 
 
 def parts(record: Record) -> list:
@@ -125,6 +130,13 @@ def write(target: pathlib.Path, text: str, mode: int = 0o666) -> None:
         file.write(text)
 
 
+def span(text: str) -> float:
+    """The value of --seconds."""
+    if not 0 <= float(text) <= 86_400:
+        raise argparse.ArgumentTypeError(f"{text} is not from 0 to 86400, a day")
+    return float(text)
+
+
 def options(arguments: list[str]) -> argparse.Namespace:
     """The options of the command line."""
     reader = argparse.ArgumentParser(
@@ -136,22 +148,23 @@ def options(arguments: list[str]) -> argparse.Namespace:
     reader.add_argument("--logs", metavar="DIR", type=pathlib.Path, help="show the step-L-S.log of this folder, masked")
     reader.add_argument("--times", metavar="FILE", type=pathlib.Path, help="what `run --times` wrote: gives the chart a clock")
     reader.add_argument("--around", metavar="K", type=int, help="of a record of more than 100,000 entries, show the places round K")
-    reader.add_argument("--seconds", metavar="N", type=float, default=60, help="ask for reasons for so long (default: 60)")
+    reader.add_argument("--seconds", metavar="N", type=span, default=60, help="ask for reasons for so long (default: 60)")
     return reader.parse_args(arguments)
 
 
 def main(arguments: list[str]) -> int:
     """The exit status of `actrun report ARGUMENTS`."""
-    chosen = options(arguments)
+    chosen, target = options(arguments), None
     try:
         if chosen.logs and not chosen.logs.is_dir():
             raise Problem(f"--logs {chosen.logs}: there is no such folder: name the one with the files step-L-S.log")
         program = os.environ.get("ACTRUN_PROGRAM")
         if not program:
             raise Problem("the variable ACTRUN_PROGRAM names no program: call this by the script `actrun`, which sets it", 3)
+        text = page(os.path.abspath(program), pathlib.Path(os.path.abspath(chosen.record)), logs=chosen.logs, times=chosen.times,
+                    around=chosen.around, seconds=chosen.seconds)
         target = chosen.output or chosen.record.with_name(chosen.record.name + ".html")
-        write(target, page(os.path.abspath(program), pathlib.Path(os.path.abspath(chosen.record)), logs=chosen.logs, times=chosen.times,
-                           around=chosen.around, seconds=chosen.seconds))
+        write(target, text)
         sys.stdout.reconfigure(errors="surrogateescape")
         print(target)
         return 0
@@ -159,7 +172,7 @@ def main(arguments: list[str]) -> int:
         print(f"actrun: report: {str(problem).removeprefix('actrun: ')}", file=sys.stderr)
         return problem.status
     except OSError as error:
-        print(f"actrun: report: {error.filename}: {error.strerror}", file=sys.stderr)
+        print(f"actrun: report: {error.filename or target}: {error.strerror}", file=sys.stderr)
         return 3
     except KeyboardInterrupt:
         return 130

@@ -17,7 +17,7 @@ from typing import Any, Iterator
 
 from . import Problem
 from .dap_logs import Masks, shown_logs
-from .dap_record import PICTURES, Record
+from .dap_record import PICTURES, Record, refused
 
 MOST = 100_000  # entries of a page
 LOGS = 1 << 20  # characters of logs, at most
@@ -57,7 +57,7 @@ class Boards:
     """The board at the first place of a page, and what each later place of the page changes, as `replay --changes` prints them."""
 
     def __init__(self, program: str, record: pathlib.Path, masks: Masks, total: int, around: int | None):
-        if around is not None and around > total:
+        if around is not None and not 0 <= around <= total:
             raise Problem(f"--around {around}: the record has the places 0 to {total}")
         self.first = max(0, total - MOST if around is None else min(around - MOST // 2, total - MOST))
         self.last = min(total, self.first + MOST)
@@ -104,7 +104,7 @@ def places(program: str, record: pathlib.Path) -> Iterator[list[bytes]]:
                 yield lines
             lines = []
         if lines is None:
-            raise Problem(f"{record}: {process.stderr.read().decode('utf-8', 'replace').strip() or '`actrun replay` ended too early'}")
+            raise refused(record, process.stderr.read().decode("utf-8", "replace").strip() or "`actrun replay` ended too early")
         yield lines
 
 

@@ -195,8 +195,10 @@ class Written(ReportCase):
             self.assertRaisesRegex(Problem, "--times", report.page, PROGRAM, EXAMPLES / "skipped.record", times=times)
         self.assertRaisesRegex(Problem, "--around 99: the record has the places 0 to 9", report.page, PROGRAM,
                                EXAMPLES / "skipped.record", around=99)
-        self.assertRaisesRegex(Problem, "line 2 WrongState", report.page, PROGRAM, EXAMPLES / "refused.record")
-        self.assertRaisesRegex(Problem, "no record", report.page, PROGRAM, EXAMPLES / "ci.json")
+        self.assertRaisesRegex(Problem, "--around -1: the record has", report.page, PROGRAM, EXAMPLES / "skipped.record", around=-1)
+        for name, said in (("refused.record", "line 2 WrongState: .*refused.record:2: the entry cannot follow"), ("ci.json", "load NotJson: .*: .* no JSON"),
+                           ("cut.record", "line 4 NotEntry: .*cut.record:4: .*cut short.*: head -n 3 .*cut.record > RECORD")):
+            self.assertRaisesRegex(Problem, said, report.page, PROGRAM, EXAMPLES / name)
         self.assertRaisesRegex(Problem, "none: ", report.page, PROGRAM, EXAMPLES / "none")
 
     def test_the_command(self) -> None:
@@ -208,6 +210,13 @@ class Written(ReportCase):
         self.assertEqual((done.returncode, done.stdout, done.stderr), (0, "r.html\n", ""))
         self.assertIn("usage: actrun report", ask("--help").stdout)
         self.assertEqual([ask(*words).returncode for words in (["no"], ["r", "--logs", "no"], [])], [2, 2, 2])
+        for words, status, said in (
+                ([""], 2, "actrun: report: .*: Is a directory: name a file"), (["/dev/null"], 2, "actrun: report: /dev/null: this is no regular file"),
+                (["r", "-o", "/dev/full"], 3, "actrun: report: /dev/full: No space left on device"),
+                *((["r", "--seconds", it], 2, f"argument --seconds: .*{it}") for it in ("nan", "inf", "-1", "1e300", "x"))):
+            done = ask(*words)
+            self.assertEqual((done.returncode, done.stdout), (status, ""), words)
+            self.assertRegex(done.stderr.splitlines()[-1], said)
 
 
 @NEEDS_PROGRAM
@@ -378,6 +387,18 @@ class Seen(ReportCase):
         row = self.js("""const it = document.querySelector('[aria-selected=true]'), tree = document.querySelector('[role=tree]');
             return [it.role, it.ariaLevel, it.ariaLabel, it.ariaPosInSet, it.ariaSetSize, tree.getAttribute('aria-activedescendant') === it.id]""")
         self.assertEqual(row, ["treeitem", "4", "step 0 (Run the suite): failure", "1", "2", True])
+
+    def test_nothing_is_cut_off_beside_a_narrow_window(self) -> None:
+        record = self.recorded("long", plan_of("n" * 300, ["j" * 300], [step("s" * 3000, "exit 1")]))
+        self.open(self.page(record))
+        self.js("addEventListener('resize', (event) => event.stopImmediatePropagation(), true)")  # (so before the page's script acts, too)
+        self.addCleanup(self.browser.execute_cdp_cmd, "Emulation.clearDeviceMetricsOverride", {})
+        for width in (1500, 1000, 800, 450, 400, 320):
+            self.browser.execute_cdp_cmd("Emulation.setDeviceMetricsOverride", {"width": width, "height": 800, "deviceScaleFactor": 1, "mobile": False})
+            hidden = self.js("""return [document.documentElement, document.querySelector('#details'), document.querySelector('#legend')].map(
+                (it) => Math.max(it.scrollWidth - it.clientWidth, it.id === 'legend' ? it.scrollHeight - it.clientHeight : 0))""")
+            self.assertEqual(hidden, [0, 0, 0], width)
+            self.assertLessEqual(self.js("return document.querySelector('#keys').getBoundingClientRect().right"), width)
 
     def big(self, *words: str) -> Path:
         """A record of many legs, of bench/big_record.py."""
