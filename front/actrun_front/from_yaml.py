@@ -89,6 +89,7 @@ def convert(name: str, options: argparse.Namespace, known: dict[str, Any]) -> in
     """Makes the JSON of a file, prints faults or notes, and returns the status."""
     base, end = os.path.splitext(name)
     out = options.o or ("-" if name == "-" else (base if end.lower() in (".yml", ".yaml") else name) + ".json")
+    place = name
     try:
         document = read_document(sys.stdin.buffer.read() if name == "-" else pathlib.Path(name).read_bytes())
         if options.lower and not document.faults:
@@ -97,12 +98,13 @@ def convert(name: str, options: argparse.Namespace, known: dict[str, Any]) -> in
             print(f"{'standard input' if name == '-' else name}:{note.line}: {note.text}", file=sys.stderr)
         if document.faults:
             return 2
+        place = "standard output" if out == "-" else out
         with open(1 if out == "-" else out, "wb", closefd=out != "-") as it:
             it.write((text_of(document.value) + "\n").encode())
         return 0
     except (OSError, ValueError) as fault:  # a name with a zero byte is a ValueError
         named = getattr(fault, "filename", None)
-        print(f"from-yaml: {named if isinstance(named, str) else name}: {getattr(fault, 'strerror', None) or fault}", file=sys.stderr)
+        print(f"from-yaml: {named if isinstance(named, str) else place}: {getattr(fault, 'strerror', None) or fault}", file=sys.stderr)
         return 3
 
 

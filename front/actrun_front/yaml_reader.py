@@ -23,6 +23,12 @@ CORE = re.compile(r"""(?P<null>~|null|Null|NULL|) | (?P<bool>true|True|TRUE|fals
     | (?P<int>[-+]?[0-9]+|0o[0-7]+|0x[0-9a-fA-F]+) | (?P<float>[-+]?(?:\.[0-9]+|[0-9]+(?:\.[0-9]*)?)(?:[eE][-+]?[0-9]+)?)
     | (?P<infinite>[-+]?(?:\.inf|\.Inf|\.INF)|\.nan|\.NaN|\.NAN) | (?P<str>.*)""", re.VERBOSE | re.DOTALL)
 
+REMEDIES = {  # by a part of what the library says
+    r"'\t'": "write spaces in place of the tab",
+    "cannot start any token": "write a text that begins so in quotes",
+    "while parsing a flow": "within { } or [ ], write a text with `${{ }}` in quotes",
+    "mapping values are not allowed": "write a text with `: ` in it in quotes, and the keys of one map in one column"}
+
 
 class Note(NamedTuple):
     """A sentence about a line of a file, counted from 1."""
@@ -260,7 +266,7 @@ def read_document(data: bytes) -> Document:
     except Exception as fault:  # the library does not foresee every text, as `"\UFFFFFFFF"`
         mark = getattr(fault, "problem_mark", None) or getattr(fault, "context_mark", None)
         told = ", ".join(filter(None, (getattr(fault, "context", None), getattr(fault, "problem", None)))) or str(fault)
-        remedy = ": write spaces in place of the tab" * (r"'\t'" in told)
+        remedy = next((f": {remedy}" for part, remedy in REMEDIES.items() if part in told), "")
         reader.refuse("this is not valid YAML: " + told.replace("\n", " ") + remedy, mark.line + 1 if mark else reader.line)
     document.faults, document.notes = (sorted(kept, key=lambda note: note.line)[:MOST_REPORTED] for kept in (reader.faults, reader.notes))
     return document

@@ -147,7 +147,7 @@ class Workflows(unittest.TestCase):
             with self.subTest(words):
                 printed, told, status = run(words, b"a: b")
                 self.assertEqual((printed, status), ("", 3))
-                self.assertTrue(told.splitlines()[-1].startswith("from-yaml: "))
+                self.assertTrue(told.splitlines()[-1].startswith(f"from-yaml: {words[1] if words[0] == '-o' else words[0]}: "), told)
 
 
 class Lower(unittest.TestCase):

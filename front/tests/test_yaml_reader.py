@@ -51,6 +51,15 @@ class Faults(unittest.TestCase):
         self.assertEqual(read_document(b"\xff").faults, [Note(1, "the file is not UTF-8")])
         self.assertEqual(read_document(b"").faults, [Note(1, "the file is empty")])
 
+    def test_remedies(self):
+        for text, line, remedy in ((b"a:\n\tb: 1\n", 2, "write spaces in place of the tab"),
+                                   (b"a: 1\nname: @x\n", 2, "write a text that begins so in quotes"),
+                                   (b"a: 1\nb: {c: d-${{ e }}}\n", 2, "within { } or [ ], write a text with `${{ }}` in quotes"),
+                                   (b"a: 1\nrun: echo 'a: b'\n", 2, "write a text with `: ` in it in quotes, and the keys of one map in one column")):
+            fault, = read_document(text).faults
+            self.assertEqual(fault.line, line)
+            self.assertTrue(fault.text.endswith(f": {remedy}"), fault.text)
+
     def test_many_aliases(self):
         text = b"".join(b"%c: &%c [%s]\n" % (c, c, b",".join([b"*%c" % (c - 1) if c > 97 else b"1"] * 10)) for c in range(97, 101))
         document = read_document(text)
