@@ -65,6 +65,8 @@ def asked_for(tool: dict, name: str, ref: str) -> str:
     versions = [ref if it == "@" else step.given(it) for it in tool.get("asked", f"{name}-version version").split()]
     for it in tool.get("files", "").split():
         place = step.folder() / (it if "." in it else step.given(it))
+        if "." not in it and step.given(it) and not any(versions) and not place.is_file():
+            step.fail(f"the file {step.given(it)} of the input {it} is not in the tree")
         if place.is_file():
             form = FORMS.get(place.name, r"^\s*(?:go)?([^\s#]\S*)").replace("NAME", name)
             versions += re.findall(form, place.read_text(encoding="utf-8", errors="replace"), re.MULTILINE)[:1]
@@ -109,7 +111,7 @@ def set_up(tool: dict, text: str) -> None:
     found = find(programs + more, tool.get("version", "--version"))
     if not found:
         step.fail(f"{action}: there is no program {' or '.join(programs)} in PATH that can be started. "
-                  f"Install it, or name a program with --stub {action}=PROGRAM")
+                  f"Install it outside of home folders, which the sandbox hides, or name a program with --stub {action}=PROGRAM")
     path, version = next((one for one in found if fits(asked, one[1])), found[0])
     print(f"{name} {version} ({path})", flush=True)
     if asked and not fits(asked, version):

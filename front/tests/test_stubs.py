@@ -129,7 +129,8 @@ class Setup(StubCase):
         ended = self.start("actions/setup-go@v5", {"go-version": "1.22"})
         self.assertEqual(ended.code, 1)
         self.assertIn("::error::actions/setup-go: there is no program go in PATH", ended.shown)
-        self.assertIn("--stub actions/setup-go=PROGRAM", ended.shown)
+        self.assertIn("Install it outside of home folders, which the sandbox hides, or name a program with --stub actions/setup-go=PROGRAM",
+                      ended.shown)
 
     def test_a_program_that_cannot_be_started_is_none(self) -> None:
         self.program("node", "exit 127")
@@ -151,6 +152,13 @@ class Setup(StubCase):
             place = self.write(f"tree/{name}", text)
             self.assertIn(f"::warning::{warned}", self.start(uses, inputs).shown)
             place.unlink()
+
+    def test_a_file_of_versions_that_is_not_there(self) -> None:
+        self.program("python", "echo Python 3.8.1")
+        ended = self.start("actions/setup-python@v5", {"python-version-file": "none.txt"})
+        self.assertEqual(ended.code, 1)
+        self.assertIn("::error::the file none.txt of the input python-version-file is not in the tree", ended.shown)
+        self.assertEqual(self.start("actions/setup-python@v5", {"python-version-file": "none.txt", "python-version": "3.8"}).code, 0)
 
     def test_what_versions_fit(self) -> None:
         fitting = ["3", "3.x", "3.10", "3.10.4", "v3.10", "3.10.x", "^3.9", "~3.10", "~> 3.10.1", ">=3.9", ">= 3.9 <3.11", ">=3.9,<4",
