@@ -173,7 +173,9 @@ def inline_calls(lowering: Lowering, flow: Any, above: Tuple[str, ...] = ()) -> 
         if job_id not in calls:
             flow["jobs"][job_id] = job
         elif path and ".." not in path.split("/") and (lowering.setting.repository / path).is_file():
-            flow["jobs"].update(called(lowering, job_id, job, path, above, taken))
+            made = called(lowering, job_id, job, path, above, taken)
+            flow["jobs"].update(made)
+            flow["jobs"].marks.update(dict.fromkeys(made, mark_of(jobs, job_id)))
         else:
             flow["jobs"][job_id] = distant(lowering, job_id, job, jobs)
         if job_id in calls and is_set(job.get("concurrency")):

@@ -1,6 +1,7 @@
 """What all lowerings share: the setting, the notes, what is known before execution, and changes of a workflow's tree."""
 from __future__ import annotations
 
+import functools
 import os
 import pathlib
 import re
@@ -37,6 +38,7 @@ class Lowering:
         self.setting = setting
         self.notes: Dict[Note, None] = {}
         self.foreign: List[Tuple[str, str]] = []
+        self.guards: Set[str] = set()  # conditions that keep steps of such legs from being executed
         self.asked: Set[Tuple[str, str]] = set()  # (job id, variable): the places where a value could have been given
         self.value_of = setting.evaluate or program.evaluate
         self.combinations = setting.legs or program.legs  # raises EvaluationError where the planner refuses a matrix
@@ -115,6 +117,12 @@ def shown(value: Any) -> str:
     return short(value if isinstance(value, str) else text_of(value))
 
 
+@functools.lru_cache(maxsize=None)
+def digest_once(given: Tuple[str, ...], repository: pathlib.Path, workspace: str) -> str:
+    """What hashFiles gives, read once: no file changes while workflows are rewritten, and many name the same ones."""
+    return digest(list(given), repository, workspace)
+
+
 class KnownContexts(Rules):
     """The rules for the texts of one step, of the job where there is no step, or of the workflow where there is no job."""
 
@@ -148,7 +156,7 @@ class KnownContexts(Rules):
             raise self.lowering.refuse(self.mark, "hashFiles has no value before execution here: write its patterns as texts in quotes")
         call, workspace = f"hashFiles({', '.join(map(literal, given))})", str(part(self.lowering.contexts, "github").get("workspace") or "")
         try:
-            value = digest(given, self.lowering.setting.repository, workspace)
+            value = digest_once(tuple(given), self.lowering.setting.repository, workspace)
         except (GlobError, OSError) as fault:
             raise self.lowering.refuse(self.mark, f"{call} has no value: {fault}") from None
         self.note(f"{call} is replaced by " + (f"the digest {value[:12]}.. of the repository's files" if value else "an empty text: no file matches"))

@@ -3,6 +3,7 @@
 Expected texts are written by hand from GitHub's documents: workflow syntax, contexts, default environment variables.
 """
 import unittest
+from unittest import mock
 
 from tests.lower_case import LowerCase, needs_program
 
@@ -42,6 +43,12 @@ class Contexts(LowerCase):
         self.assertEqual(step["run"], "x-9c64071fc196d33fec0036f48898b7ff2cf8398b892ead8afce6e9568f7fb6de-")
         self.assertEqual(self.notes(), [(2, "hashFiles('*.lock') is replaced by the digest 9c64071fc196.. of the repository's files"),
                                         (2, "hashFiles('none', 'nothing') is replaced by an empty text: no file matches")])
+
+    def test_hash_files_are_read_once(self):
+        with mock.patch("actrun_front.hash_files.files_of", return_value=[]) as listed:  # (of a big repository that is slow)
+            self.step("run: \"${{ hashFiles('*.x') }} ${{ hashFiles('*.x') }}\"")
+            self.step("run: \"${{ hashFiles('*.x') }}\"")
+        self.assertEqual(listed.call_count, 1)
 
     def test_hash_files_that_are_refused(self):
         line, text = self.refused("on: push\njobs:\n  a:\n    steps:\n      - uses: c\n        with:\n          key: ${{ hashFiles(env.FILE) }}")

@@ -115,6 +115,7 @@ jobs:
         self.lower("on: push\njobs:\n  top: {uses: ./.github/workflows/mid.yml, with: {x: ab}}\n"
                    "  end: {needs: top, steps: [{run: \"echo ${{ needs.top.outputs.o }}\"}]}\n")
         self.assertEqual(self.run_plan(), ["abc/true/3/build/none", "secrets false true", "test success", "1.abc"])
+        self.assertEqual([self.lowered.lines["jobs", name] for name in ("top__in__build", "top__in", "top", "end")], [3, 3, 3, 4])
 
     @needs_program
     def test_inputs_as_a_whole_and_variables_without_a_value(self):
