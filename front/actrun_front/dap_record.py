@@ -11,6 +11,7 @@ from dataclasses import dataclass, field
 from typing import Any, Sequence
 
 from . import Problem
+from .explain import explain
 from .present import Leg, as_text, legs_of
 
 PLACE = re.compile(r"place ([0-9]+) of ([0-9]+)")
@@ -70,6 +71,12 @@ class Board:
             self.ends = [int(word) for word in rest.split()]
 
 
+def refused(record: pathlib.Path, line: str) -> Problem:
+    """The problem that the program has with a record, with what explains its line."""
+    words = explain(line, "debug", [str(record)])
+    return Problem(f"{line.removeprefix('actrun: ')}: {words}" if words else f"{record}: {line}")
+
+
 class Walker:
     """`actrun debug` of one record. Raises Problem with the program's line where it refuses the record or ends."""
 
@@ -82,7 +89,7 @@ class Walker:
             self.go("goto 0")
         except Problem as fault:
             self.close()
-            raise Problem(f"{record}: {fault}") from None
+            raise refused(record, str(fault)) from None
 
     def ask(self, command: str) -> str:
         """The answer, or its first line, to a command."""

@@ -10,9 +10,10 @@ import json
 import os
 import pathlib
 import re
+import shlex
 import subprocess
 import sys
-from typing import Iterable
+from typing import Iterable, Iterator
 
 from .yaml_reader import read_document, text_of
 
@@ -88,16 +89,33 @@ def take_apart(command: str, arguments: list[str]) -> tuple[dict[str, str], list
             wrong.append(f"{name} stands twice" if name in options else f"a value is missing after {name}")
         else:
             options[name] = value if equals or not known[name] else rest.pop(0)
-    if command != "table" and not operands:
-        wrong.append(f"{command} needs {'an expression' if command == 'eval' else 'a file'}")
-    if "--event" in options and "--job" in options:
-        wrong.append("--event and --job are not taken together")
-    return options, operands, wrong
+    return options, operands, [*wrong, *misfits(command, options, operands)]
+
+
+def misfits(command: str, options: dict[str, str], operands: list[str]) -> Iterator[str]:
+    """What is wrong with the number of operands, with two options together, and with a number."""
+    if command == "table":
+        yield from (f"table reads standard input: actrun table < {shlex.quote(operand)}" for operand in operands[:1])
+    elif not operands:
+        yield f"{command} needs {'an expression' if command == 'eval' else 'a file'}"
+    elif command == "eval" and operands[1:]:
+        yield "eval takes one expression: put it in quotes"
+    elif command in ("run", "replay", "graph", "timeline", "debug") and operands[1:]:
+        yield f"{command} takes one file: {operands[1]} is too many"
+    elif command == "why" and operands[1:] and not re.fullmatch(r"(run|job|leg) \d+|step \d+ \d+", " ".join(operands[1:])):
+        yield f"{' '.join(operands[1:])} is not run R, job J, leg L or step L S with their numbers"
+    for one, other in (("--event", "--job"), ("--settled", "--changes")):
+        if one in options and other in options:
+            yield f"{one} and {other} are not taken together"
+    if options.get("--workers", "1") not in map(str, range(1, 17)):
+        yield f"--workers takes 1 to 16, not {options['--workers']}"
 
 
 def unreadable(file: str) -> str | None:
     """Why a file cannot be read, with the remedy; None if it can."""
     place = pathlib.Path(file)
+    if not file:
+        return "the name of a file is empty: write one"
     if place.is_dir():
         return f"{file} is a folder: name a file in it"
     if place.exists():
@@ -107,20 +125,41 @@ def unreadable(file: str) -> str | None:
     return f"{file} is not there{near(file, map(str, place.parent.iterdir()))}"
 
 
+def kept_part(record: str) -> str:
+    """How far FILE.part has a record that could not be written; nothing where it has none of this run."""
+    part = f"{record}.part"
+    if not record or not os.path.isfile(part) or not os.access(part, os.W_OK):
+        return ""
+    done = subprocess.run([os.environ.get("ACTRUN_PROGRAM") or "false", "replay", "--", part], capture_output=True, check=False)
+    if done.stdout and done.returncode in (0, 1):
+        return f"{part} has the whole record: mv {shlex.quote(part)} NAME keeps it"
+    with open(part, "rb") as file:
+        last = sum(1 for _ in file)
+    return f"{part} ends at line {last}, before all runs are closed: actrun why {shlex.quote(part)} explains it so far" if done.returncode == 4 else ""
+
+
+def unwritable(record: str) -> str | None:
+    """Why no file can be written where a record should be, with the remedy; None if one can."""
+    folder = os.path.dirname(record) or "."
+    if os.path.isdir(record):
+        return f"the record {record} is a folder: name a file in it"
+    if not os.path.isdir(folder):
+        return f"the folder {folder} of the record is not there: mkdir -p it"
+    return None if os.access(folder, os.W_OK) else f"the folder {folder} of the record may not be written: chmod +w it, or name another"
+
+
 def explain_io(files: list[str], work: str, record: str) -> str:
     """Which file or folder cannot be opened, in the order in which a command opens them; else that a stream failed."""
     reason = next(filter(None, map(unreadable, files)), None)
     if reason or not os.path.isdir(work):
-        return reason or f"the folder {work} of --work is not there: mkdir -p it"
-    of_record = os.path.dirname(record) or "."
-    part = f"; {record}.part has what was recorded" if record and os.path.isfile(f"{record}.part") else ""
-    for folder in filter(os.path.isdir, (work, of_record)):
+        return reason or f"the folder {work or repr(work)} of --work is not there: mkdir -p it"
+    reason = unwritable(record) if record else None
+    for folder in filter(os.path.isdir, (work, os.path.dirname(record) or ".")):
         space = os.statvfs(folder)
-        if space.f_bavail * space.f_frsize < LEAST_SPACE:
-            return f"{folder}: No space left on device: make room there, or name another place{part}"
-    if record and (os.path.isdir(record) or not os.access(of_record, os.W_OK)):
-        return f"the record {record} cannot be written: its folder is not there or not writable, or it is a folder itself{part}"
-    return "all files that are named can be opened, so a read or a write failed: is the disk full, or standard output closed?"
+        if not reason and space.f_blocks and space.f_bavail * space.f_frsize < LEAST_SPACE:
+            reason = f"{folder}: No space left on device: make room there, or name another place, and start again"
+    reason = reason or "all files that are named can be opened, so a read or a write failed: is the disk full, or standard output closed?"
+    return "\n".join(filter(None, (reason, kept_part(record))))
 
 
 def origin_of(file: str) -> tuple[str, dict]:
@@ -133,10 +172,23 @@ def origin_of(file: str) -> tuple[str, dict]:
     return file, {}
 
 
+def is_plan(file: str) -> bool:
+    """Whether the first line of a file is a plan."""
+    try:
+        with open(file, "rb") as it:
+            first = json.loads(it.readline())
+        return isinstance(first, dict) and "runs" in first and "version" in first
+    except (OSError, ValueError, RecursionError):
+        return False
+
+
 def lint(files: list[str], error: str, origins: Origins) -> str:
     """What `actrun lint` says of an error in files, each line with its place in YAML where that is known."""
     found = []
     for file in filter(os.path.isfile, files):
+        if is_plan(file):
+            found.append(f"{file} is a plan or a record, and no workflow: actrun table < {shlex.quote(file)} shows what it has")
+            continue
         done = subprocess.run([os.environ.get("ACTRUN_PROGRAM") or "false", "lint", "--", file], capture_output=True, text=True,
                               errors="replace", check=False)
         name, lines = origins.get(file) or origin_of(file)
@@ -162,6 +214,17 @@ def explain_choice(error: str, asked: str, files: list[str]) -> str:
     return SENTENCES[f"plan {error}"] + (f": {asked}{near(asked, map(str, there))}\nthere are: {names}" if there else "")
 
 
+def json_fault(file: str) -> str:
+    """The place in a file from which on it is no JSON; nothing where that is not known."""
+    try:
+        json.loads(pathlib.Path(file).read_text(encoding="utf-8")) if os.path.isfile(file) else None
+    except json.JSONDecodeError as fault:
+        return f":{fault.lineno}:{fault.colno}"
+    except (OSError, ValueError, RecursionError):
+        pass
+    return ""
+
+
 def explain(line: str, command: str, arguments: list[str], origins: Origins | None = None) -> str | None:
     """What a person gets after the program's error line, or None where the line says it all."""
     match = re.fullmatch(r"actrun: (\w+)(?: (.*))?", line.rstrip("\n"), re.DOTALL)
@@ -179,20 +242,24 @@ def explain(line: str, command: str, arguments: list[str], origins: Origins | No
         return explain_io([*named, *read], options.get("--work", "."), options.get("--record", ""))
     if kind in ("pool", "why"):
         return f"--workers takes 1 to 16, not {options.get('--workers', '')}" if kind == "pool" else \
-            f"the record has no {' '.join(operands[1:])}: actrun table < {operand} shows what it has"
+            f"the record has no {' '.join(operands[1:])}: actrun table < {shlex.quote(operand)} shows what it has"
     if rest in ("NoWorkflow", "UnknownJob"):
         return explain_choice(rest, options.get("--event", "") or options.get("--job", ""), operands)
     file, _, error = rest.rpartition(" ") if kind == "flow" else ("", "", rest)
     if file in named:
-        return f"{file}: this is no JSON object of the kind that the option takes: texts, whole numbers, lists and objects"
+        return f"{file}{json_fault(file)}: this is no JSON object of the kind that the option takes: texts, whole numbers, lists and objects"
     if error == "NotJson" and file.endswith((".yml", ".yaml")):
-        return f"{file} is YAML: actrun from-yaml {file} > FILE.json makes JSON of it, and actrun try needs none"
+        made = os.path.splitext(file)[0] + ".json"
+        return f"{file} is YAML: actrun from-yaml {shlex.quote(file)} writes {made}, which this command reads; actrun try needs none"
     if kind == "flow" or kind == "plan" and rest != "TooMany":
         return lint([file] if file else operands, error, origins or {}) or f"actrun lint {file or 'FILE'} names the place, and what to write there"
     number, name, at = re.fullmatch(r"(\d*) ?(\w*)(?: at (\d+))?.*", rest).groups()  # type: ignore[union-attr]
     sentence = SENTENCES.get(f"{kind} {name}".strip())
     if sentence and kind in ("load", "line"):
-        return f"{operand or 'standard input'}{':' * bool(number)}{number}: {sentence}"
+        keeps = f": head -n {int(number) - 1} {shlex.quote(operand) if operand else 'FILE'} > RECORD" if name == "NotEntry" else ""
+        return f"{operand or 'standard input'}{':' * bool(number)}{number}: {sentence}{keeps}"
+    if at and operand.encode(errors="replace")[int(at):].startswith(b"${{"):
+        sentence = "the expression is written without ${{ and }}"
     marked = at and operand.isprintable() and f"\n  {operand}\n  {' ' * len(operand.encode()[:int(at)].decode(errors='ignore'))}^"
     return f"{sentence}{marked or ''}" if sentence else None
 

@@ -129,9 +129,9 @@ class Orders(DapCase):
                 ({"record": 3}, "`record` has to be a text"),
                 ({"record": "/nowhere/record"}, "/nowhere/record: there is no such file"),
                 ({"record": str(self.room / "pipe")}, "there is no such file"), ({"record": "a\0b"}, "there is no such file"),
-                ({"record": str(EXAMPLES / "refused.record")}, "refused.record: actrun: line 2 WrongState"),
-                ({"record": str(EXAMPLES / "cut.record")}, "cut.record: actrun: line 4 NotEntry"),
-                ({"record": str(EXAMPLES / "ci.json")}, "ci.json: actrun: load"),
+                ({"record": str(EXAMPLES / "refused.record")}, "line 2 WrongState: "),
+                ({"record": str(EXAMPLES / "cut.record")}, "cut.record > RECORD"),
+                ({"record": str(EXAMPLES / "ci.json")}, "ci.json: its first line is no JSON"),
                 ({"record": str(EXAMPLES / "p1.record"), "workflows": "ci.yml"}, "`workflows` has to be a list"),
                 ({"record": str(EXAMPLES / "p1.record"), "workflows": ["/nowhere/ci.yml"]}, "/nowhere/ci.yml: No such file"),
                 ({"record": str(EXAMPLES / "p1.record"), "logs": "/nowhere"}, "/nowhere: there is no such folder")]:

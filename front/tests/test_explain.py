@@ -126,28 +126,58 @@ class Explain(unittest.TestCase):
         self.assertIn("there are: build", explain("actrun: plan UnknownJob", "plan", ["--job", "x", "ok.json"]))
 
     def test_yaml_where_json_is_needed(self) -> None:
-        self.assertIn("actrun from-yaml ci.yml", explain("actrun: flow ci.yml NotJson", "plan", ["ci.yml"]))
+        self.write("a ci.yml", "on: push\n")
+        words = explain("actrun: flow a ci.yml NotJson", "plan", ["a ci.yml"])
+        self.assertIn("actrun from-yaml 'a ci.yml' writes a ci.json, ", words)
+        # (the command does so)
+        done = subprocess.run([sys.executable, str(TOP / "front"), "from-yaml", "a ci.yml"], capture_output=True, check=False)
+        self.assertEqual((done.returncode, done.stdout, pathlib.Path("a ci.json").read_bytes()), (0, b"", b'{"on":"push"}\n'), done.stderr)
+
+    def test_a_plan_where_a_workflow_is_needed(self) -> None:
+        for text in ('{"runs":[],"version":2}', '{"runs":[],"version":2}\n{"event":"open"}\n'):
+            self.write("a plan", text)
+            for error in ("Missing", "NotJson"):
+                self.assertEqual(explain(f"actrun: flow a plan {error}", "list", ["a plan"]),
+                                 "a plan is a plan or a record, and no workflow: actrun table < 'a plan' shows what it has")
 
     def test_contexts_and_stubs(self) -> None:
         words = explain("actrun: flow c.json WrongShape", "plan", ["--contexts", "c.json", "ok.json"])
         self.assertIn("c.json: this is no JSON object", words)
+        for text, place in (('{"github":\n {"a" 1}}', ":2:7"), ("[" * 9999, ""), ('{"github": 1.5}', "")):
+            self.write("c.json", text)
+            words = explain("actrun: flow c.json NotJson", "plan", ["--contexts", "c.json", "ok.json"])
+            self.assertTrue(words.startswith(f"c.json{place}: this is no JSON object"), words)
 
     def test_the_file_that_cannot_be_opened(self) -> None:
         self.write("here.plan", "{}")
         os.mkdir("folder")
-        self.write("folder.part", "")
         for command, arguments, expected in (
                 ("plan", ["ok.json", "ok.jsn"], "ok.jsn is not there; did you mean ok.json?"),
                 ("plan", ["--contexts", "none", "ok.jsn"], "none is not there"),
                 ("why", ["none/x.record", "leg", "0"], "the folder none of x.record is not there"),
                 ("run", ["folder"], "folder is a folder"),
                 ("run", ["--work", "none", "here.plan"], "the folder none of --work is not there"),
-                ("run", ["--record", "none/r", "here.plan"], "the record none/r cannot be written"),
-                ("run", ["--record", "folder", "here.plan"], "the record folder cannot be written: its folder is not there or not writable, or it is "
-                 "a folder itself; folder.part has what was recorded"),
+                ("run", ["--work", "", "here.plan"], "the folder '' of --work is not there"),
+                ("run", ["--stubs", "", "here.plan"], "the name of a file is empty"),
+                ("run", ["--record", "none/r", "here.plan"], "the folder none of the record is not there: mkdir -p it"),
+                ("run", ["--record", "folder", "here.plan"], "the record folder is a folder: name a file in it"),
+                ("run", ["--record", "/proc/r", "here.plan"], "all files that are named can be opened"),
                 ("list", ["ok.json"], "is the disk full"), ("table", [], "is the disk full")):
             words = explain("actrun: io", command, arguments)
             self.assertTrue(words.startswith(expected) or expected == "is the disk full" and expected in words, words)
+
+    def test_how_far_a_part_has_the_record(self) -> None:
+        """By the status of `replay`; an empty one, and another user's, have nothing of this run."""
+        self.write("here.plan", "{}")
+        os.mkdir("folder")
+        place = self.write("program", "#!/bin/sh\n[ \"$1 $2 $3\" = 'replay -- folder.part' ] && cat folder.part && exit $(cat status)\n", 0o755)
+        os.environ["ACTRUN_PROGRAM"] = str(place)
+        whole, early = "folder.part has the whole record: mv folder.part NAME keeps it", "folder.part ends at line 2, before all runs are closed: actrun why"
+        for status, part, expected in (("0", "1\n2\n", whole), ("1", "1\n2\n", whole), ("4", "1\n2\n", early), ("2", "1\n2\n", ""), ("1", "", "")):
+            self.write("status", status)
+            self.write("folder.part", part)
+            reason, _, kept = explain("actrun: io", "run", ["--record", "folder", "here.plan"]).partition("\n")
+            self.assertEqual((reason, kept[:len(expected) or None]), ("the record folder is a folder: name a file in it", expected))
 
     def test_a_pipe_is_not_waited_for(self) -> None:
         os.mkfifo("pipe")
@@ -162,7 +192,11 @@ class Explain(unittest.TestCase):
                 ("eval", [], "eval needs an expression"), ("run", ["--worker", "x"], "run has no option --worker; did you mean --workers?"),
                 ("run", ["x", "--work"], "a value is missing after --work"), ("replay", ["--settled", "--settled", "r"], "stands twice"),
                 ("run", ["--progress=x", "p"], "--progress takes no value"), ("run", ["--work=a", "--work", "b", "p"], "--work stands twice"),
-                ("plan", ["--event", "a", "--job", "b", "f"], "--event and --job are not taken together")):
+                ("plan", ["--event", "a", "--job", "b", "f"], "--event and --job are not taken together"),
+                ("replay", ["--changes", "--settled", "r"], "--settled and --changes are not taken together"),
+                ("eval", ["1", "==", "2"], "eval takes one expression: put it in quotes"), ("run", ["a", "b"], "run takes one file: b is too many"),
+                ("why", ["r", "legs", "0"], "legs 0 is not run R, job J, leg L or step L S"), ("why", ["r", "step", "0"], "step 0 is not run R"),
+                ("table", ["a r"], "table reads standard input: actrun table < 'a r'"), ("run", ["--workers", "two", "p"], "takes 1 to 16, not two")):
             self.assertIn(expected, explain("actrun: words", command, arguments))
         self.assertIn("--workers takes 1 to 16, not 40", explain("actrun: pool Workers", "run", ["--workers=40", "p"]))
 
@@ -181,10 +215,14 @@ class Explain(unittest.TestCase):
     def test_the_place_in_an_expression(self) -> None:
         self.assertTrue(explain("actrun: expr BadChar at 6", "eval", ["'ä' = 1"]).endswith("\n  'ä' = 1\n       ^"))
         self.assertNotIn("^", explain("actrun: expr BadChar at 1", "eval", ["1\n="]))
+        self.assertEqual(explain("actrun: expr BadChar at 3", "eval", ["!  ${{ x }}"]),
+                         "the expression is written without ${{ and }}\n  !  ${{ x }}\n     ^")
 
     def test_files_and_lines_of_records(self) -> None:
         self.assertTrue(explain("actrun: line 7 WrongState", "why", ["a.record"]).startswith("a.record:7: "))
         self.assertTrue(explain("actrun: line 7 NotEntry", "table", []).startswith("standard input:7: "))
+        self.assertTrue(explain("actrun: line 7 NotEntry", "table", []).endswith(": head -n 6 FILE > RECORD"))
+        self.assertTrue(explain("actrun: line 7 NotEntry", "why", ["a record", "leg", "0"]).endswith(": head -n 6 'a record' > RECORD"))
 
     def test_the_command_explains_the_last_line_on_standard_error(self) -> None:
         self.write("err", "leg 0 (a) step 0 of 1 started: x\nactrun: pool Workers\n")
