@@ -15,10 +15,11 @@ from typing import Any, Dict, Iterable
 from . import Problem, options as words, tree as rooms
 from .actions import StubError, Stubs, after_play, stubs_for
 from .contexts import Play, read_payload
-from .environment import HOME, SUDO, SUDO_OF_ROOT, marker, sandbox_words, settle, variables, why_no_sandbox, write_prelude
+from .environment import (HOME, SUDO, SUDO_OF_ROOT, hidden_programs, marker, sandbox_words, settle, variables, why_no_sandbox,
+                          write_prelude)
 from .execute import Execution, ask, program
 from .explain import explain
-from .planning import Flow, job_rows, make_plan, of_event, read_flows, workflow_files, write_private
+from .planning import Flow, job_rows, lower_flows, make_plan, of_event, read_flows, workflow_files, write_private
 from .present import Board, Screen, legs_of, mask, one_line, placed, summaries, table, tree
 from .tree import find_project, find_top, git, read_facts
 
@@ -30,6 +31,9 @@ PYTHON = "/usr/bin/python3" if os.access("/usr/bin/python3", os.X_OK) else sys.e
 
 def main(arguments: list[str]) -> int:
     """The exit status of `actrun try ARGUMENTS`."""
+    if sys.stdout is None or sys.stderr is None:
+        print("actrun: standard output or standard error is closed: send it to a file, as > /dev/null", file=sys.stderr or sys.stdout)
+        return 3
     screen = Screen()
     try:
         return attempt(arguments, screen)
@@ -80,8 +84,10 @@ def attempt(arguments: list[str], screen: Screen) -> int:
         play = Play(event, facts, options, payload, room, 1 if looks else next_number(top), int(time.time() * 1000))
         for text in () if looks else rooms.copy_tree(facts, room, bool(options.in_place)):
             screen.tell(f"note: not copied: {text}", "note")
-        plan = make_plan(picked, play, screen)
-        return max(look(plan, picked, play, screen) if looks else Trial(picked, play, plan, screen).execute(), least)
+        lowered = lower_flows(picked, play, screen)
+        least = 2 if len(lowered) < len(picked) else least
+        plan = make_plan(lowered, play, screen)
+        return max(look(plan, lowered, play, screen) if looks else Trial(lowered, play, plan, screen).execute(), least)
     finally:
         room.lock.close()
         if looks or not (room.private / "record").exists():
@@ -119,7 +125,7 @@ def tree_of(plan: dict[str, Any], flows: list[Flow], play: Play) -> Iterable[str
     stubs = stubs_of(plan, play)
     stands = {**dict.fromkeys(stubs.programs, "stub"), **dict.fromkeys(stubs.named, "named program"),
               **dict.fromkeys(stubs.missing, "no stub, its step fails"), **dict.fromkeys(stubs.lenient, "no stub, its step is skipped")}
-    yield from tree(plan, [flow.name for flow in flows], stands)
+    yield from tree(plan, [flow.name for flow in flows], stands, {guard for flow in flows for guard in flow.lowered.guards})
     yield from (f"{flow.name}: {job} is for {system}: it executes nothing here (--any-system executes it)"
                 for flow in flows for job, system in flow.lowered.foreign)
 
@@ -142,7 +148,7 @@ class Trial:
         # several legs in one tree would disturb one another
         self.own_trees = len(self.legs) > 1 and not self.options.in_place
         self.secrets = [text for run in plan["runs"] for text in run["roots"]["secrets"].values() if text]
-        self.board = Board(screen, self.legs, marker(self.secrets))
+        self.board = Board(screen, self.legs, marker(), self.secrets, self.room.play)
         self.cache = rooms.kept_for(play.facts.top, "caches")
         # of the caller, unless this is a step of another `try`, whose prelude it is
         bash_env = os.environ.get("BASH_ENV", "")
@@ -183,6 +189,7 @@ class Trial:
         if problem is None:
             (room.play / "bin" / "sudo").write_text(SUDO if os.geteuid() else SUDO_OF_ROOT, encoding="utf-8")
             (room.play / "bin" / "sudo").chmod(0o755)
+            self.board.hidden = hidden_programs(environment.get("PATH", os.defpath))
             environment["PATH"] = f"{room.play / 'bin'}:{environment.get('PATH', os.defpath)}"
             environment.pop("TMPDIR", None)
             if HOME.parent.is_dir() and "HOME" not in options.variables:
@@ -261,7 +268,7 @@ class Trial:
         from . import timeline  # (here, as `report` is)
         private, play = self.room.private, self.room.play
         yield f"logs      {play}/step-LEG-STEP.log"
-        trees = sorted((play / "legs").glob("*")) if self.own_trees else [self.play.workspace]
+        trees = [folder / self.room.name for folder in sorted((play / "legs").glob("*"))] if self.own_trees else [self.play.workspace]
         if trees:
             yield f"tree      {trees[0] if len(trees) == 1 else play / 'legs' / 'JOB-INDEX' / self.room.name}"
         if page:

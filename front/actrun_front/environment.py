@@ -8,7 +8,7 @@ import shlex
 import shutil
 import subprocess
 from pathlib import Path
-from typing import Any, Iterable, Mapping
+from typing import Any, Mapping
 
 from .contexts import text_of
 from .expressions import TEXT, Access, Rules, has_expression, literal, rewrite, split, unquoted
@@ -20,7 +20,6 @@ SH_HOOK = '[ -z "${ACTRUN_PRELUDE-}" ] || . "$ACTRUN_PRELUDE"; '
 # what steps get of the caller's own environment: no variable of these usually holds a secret
 PASSED = re.compile("PATH|HOME|USER|LOGNAME|SHELL|LANG|LANGUAGE|LC_.*|TZ|TERM|TMPDIR|SSL_CERT_(FILE|DIR)|(?i:(https?|ftp|no|all)_proxy)")
 NO_VARIABLES = ("event", "token", "repositoryUrl", "secret_source")  # of `github`
-MARK_LIKE = re.compile(r"[0-9a-f:-]{1,8}")
 PRELUDE = """\
 # Sourced by each bash (as BASH_ENV), by scripts for sh and by the programs of actions; all but the last line counts once a step,
 # and not for a bash that a step starts with a GITHUB_OUTPUT of its own.
@@ -30,7 +29,7 @@ case ${{GITHUB_OUTPUT-}} in
   ACTRUN_STEP=$GITHUB_OUTPUT
   actrun_place=${{GITHUB_OUTPUT##*/step-}}
   actrun_place=${{actrun_place%.out}}
-  {mark}
+  printf '%s\n' "{mark}:$actrun_place"
   if [ -e {files}/stopped ]; then cat {files}/stopped; exit 130; fi
   GITHUB_PATH={files}/path-${{actrun_place%-*}}
   GITHUB_STEP_SUMMARY={files}/summary-$actrun_place
@@ -72,16 +71,16 @@ PROC = ("sys", "sysrq-trigger", "irq", "bus", "fs", "scsi", "acpi", "mtrr")
 RUN = ("/run/systemd/resolve", "/run/resolvconf", "/run/nscd", "/run/current-system", "/run/wrappers", "/run/opengl-driver")
 
 
-def marker(secret_texts: Iterable[str]) -> str:
-    """The word before `:L-S` in the line that begins a step's output; nothing where a secret could mask part of it."""
-    return "" if any(MARK_LIKE.fullmatch(text) for text in secret_texts) else f"actrun-{secrets.token_hex(8)}"
+def marker() -> str:
+    """The word before `:L-S` in the line that begins a step's output."""
+    return f"actrun-{secrets.token_hex(8)}"
 
 
 def write_prelude(room: Room, mark: str) -> Path:
     """Writes the prelude of an execution."""
     path = room.play / "files" / "prelude.sh"
     play, files, tree = (shlex.quote(str(place)) for place in (room.play, path.parent, room.tree))
-    path.write_text(PRELUDE.format(mark=f"printf '%s\\n' \"{mark}:$actrun_place\"" if mark else ":", play=play, files=files, tree=tree),
+    path.write_text(PRELUDE.format(mark=mark, play=play, files=files, tree=tree),
                     encoding="utf-8")
     return path
 
@@ -189,6 +188,14 @@ def sandbox_words(room: Room, readable: list[Path], writable: list[Path], offlin
             bind("--ro-bind", os.path.realpath(link), at=link)
     bind("--bind", *writable, room.play)
     return [*result, "--chdir", os.fspath(room.play), "--"]
+
+
+def hidden_programs(path: str) -> list[str]:
+    """The folders right below a home folder that have folders of PATH, and that the sandbox hides."""
+    homes = {Path("/home"), Path("/root"), Path.home(), Path.home().resolve()} - {Path("/")}
+    lines = [(Path(folder), *Path(folder).parents) for folder in path.split(":") if os.path.isdir(folder)]
+    belows = (next((below for below, home in zip(line, line[1:]) if home in homes), None) for line in lines)
+    return list(dict.fromkeys(str(below) for below in belows if below))
 
 
 def why_no_sandbox(sandbox: list[str]) -> str | None:

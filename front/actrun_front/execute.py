@@ -17,6 +17,9 @@ PATIENCE = 3.0
 SIGNALS = {signal.SIGINT: "Ctrl-C", signal.SIGTERM: "SIGTERM", signal.SIGHUP: "SIGHUP"}  # that end the steps, and what a person calls them
 PROGRESS = re.compile(r"leg (\d+) \(.*?\) step (\d+) of \d+ (?:started: .*|refused: (?P<refusal>.*)|(?P<end>exit (?P<code>\d+)|bad output|not started: .* \((?P<why>.*)\))"
                       r"(?: in (?P<seconds>[\d.]+) s)?, \d+ of \d+ steps)")
+REFUSALS = {"NotUtf8": "it is no UTF-8", "NoName": "a line is neither NAME=VALUE nor NAME<<DELIMITER, or a name has a sign that is not allowed",
+            "OpenBlock": "the line that ends a NAME<<DELIMITER is missing",
+            "TooMany": "it has more than 256 names, a name of more than 256 bytes or a value of more than 65,536"}
 
 
 def program() -> str:
@@ -38,7 +41,8 @@ def read_progress(line: str) -> tuple[int, int, str, str, str] | None:
     if not found:
         return None
     if found["refusal"]:
-        return int(found[1]), int(found[2]), "refused", found["refusal"], ""
+        name = found["refusal"].rpartition(": ")[2]
+        return int(found[1]), int(found[2]), "refused", f"{found['refusal']}{f', {REFUSALS[name]}' if name in REFUSALS else ''}", ""
     state = "started" if not found["end"] else "success" if found["code"] == "0" else "failure"
     reason = f"exit {found['code']}" if found["code"] else f"not started: {found['why']}" if found["why"] else \
         "its outputs or variables cannot be read"

@@ -57,6 +57,7 @@ class Lowered:
     notes: List[Note] = field(default_factory=list)
     foreign: List[Tuple[str, str]] = field(default_factory=list)  # (job id, labels of runs-on) of legs that execute nothing here
     asked: Set[Tuple[str, str]] = field(default_factory=set)  # (job id, variable): what --matrix can give
+    guards: Set[str] = field(default_factory=set)  # conditions before those of steps, by which legs of `foreign` execute nothing
 
 
 def lower(document: Document, file: str, setting: Setting) -> Lowered:
@@ -70,7 +71,8 @@ def lower(document: Document, file: str, setting: Setting) -> Lowered:
             if isinstance(job, dict) and isinstance(job.get("steps"), list):
                 lower_job(lowering, flow, job_id, job)
         drop_default_shell(flow)
-    return Lowered(flow, lines_of(flow), sorted(lowering.notes, key=lambda note: note.line), lowering.foreign, lowering.asked)
+    return Lowered(flow, lines_of(flow), sorted(lowering.notes, key=lambda note: note.line), lowering.foreign, lowering.asked,
+                   lowering.guards)
 
 
 def lower_job(lowering: Lowering, flow: Any, job_id: str, job: Any) -> None:

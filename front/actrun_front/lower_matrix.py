@@ -96,5 +96,6 @@ def lower_system(lowering: Lowering, job_id: str, job: Any) -> None:
         everywhere = {text.strip() for text in found} == set(foreign)
     except EvaluationError:
         lowering.note(mark, f"the system of job {job_id} is known only during execution: its steps are skipped on Windows and macOS")
+    lowering.guards.add(condition)
     for step in steps_of(job):
         step["if"] = False if everywhere else conjunction(condition, condition_expression(step.get("if")))

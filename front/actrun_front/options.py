@@ -41,6 +41,18 @@ class Parser(argparse.ArgumentParser):
         raise Problem(f"{self.place}{message}: `actrun try --help` lists the options")
 
 
+class Once(argparse.Action):
+    """An option with one value, which the words of a parser have once at most."""
+
+    given = False
+
+    def __call__(self, reader: argparse.ArgumentParser, found: argparse.Namespace, value: Any, option: str | None = None) -> None:
+        if self.given:
+            reader.error(f"{option} stands twice: only one can count")
+        self.given = True
+        setattr(found, self.dest, value)
+
+
 def pair(text: str) -> tuple[str, str | None]:
     """Name and value of an option; None without a value."""
     name, equals, value = text.partition("=")
@@ -78,7 +90,7 @@ def parser(base: Path = Path(), place: str = "") -> Parser:
     """The parser of the command line and of the lines of `.actrunrc`; files are looked for from `base`."""
     result = Parser(prog="actrun try", allow_abbrev=False, formatter_class=argparse.RawDescriptionHelpFormatter, description=ABOUT, epilog=END)
     result.place = place
-    file = {"metavar": "FILE", "type": lambda text: base / text}
+    file = {"metavar": "FILE", "type": lambda text: base / text, "action": Once}
     for add_some in (add_choices, add_values, add_ways):
         add_some(result.add_argument, base, file)
     return result
@@ -90,9 +102,9 @@ def add_choices(add: Callable[..., Any], _: Path, file: dict[str, Any]) -> None:
     add("-l", "--list", help="list the jobs of all workflows, or those of EVENT, and execute nothing", **FLAG)
     add("-n", "--dryrun", help="print runs, jobs, legs and steps as a tree, and execute nothing", **FLAG)
     add("-g", "--graph", help="print the graph of the plan in DOT, as for `| dot -Tsvg`, and execute nothing", **FLAG)
-    add("-j", "--job", metavar="ID", help="execute this job and those that it needs")
-    add("-W", "--workflows", metavar="PATH", help="file or folder of workflows (default: .github/workflows)")
-    add("-C", "--directory", metavar="DIR", help="a folder of the repository (default: the current folder)")
+    add("-j", "--job", metavar="ID", action=Once, help="execute this job and those that it needs")
+    add("-W", "--workflows", metavar="PATH", action=Once, help="file or folder of workflows (default: .github/workflows)")
+    add("-C", "--directory", metavar="DIR", action=Once, help="a folder of the repository (default: the current folder)")
     add("-e", "--eventpath", help="JSON file with the event's payload, which becomes github.event", **file)
 
 
@@ -112,14 +124,14 @@ def add_values(add: Callable[..., Any], _: Path, file: dict[str, Any]) -> None:
 
 def add_ways(add: Callable[..., Any], base: Path, file: dict[str, Any]) -> None:
     """The options that say how steps are executed."""
-    add("--workers", metavar="N", type=int, choices=range(1, MOST_WORKERS + 1),
+    add("--workers", metavar="N", type=int, choices=range(1, MOST_WORKERS + 1), action=Once,
         help="legs that execute at once (default: the processors, at most 16; with --in-place 1)")
     add("--stub", metavar="ACTION=PROGRAM", help="a program that stands for an action", **{**MANY, "type": functools.partial(stub, base)})
     add("--stubs", help="JSON file, an object of such programs", **file)
     add("--lenient", help="skip actions that have no stub, with a warning", **FLAG)
     add("--any-system", help="execute the legs for Windows and macOS here", **FLAG)
     add("--in-place", help="execute in the working tree itself, not in a copy", **FLAG)
-    add("--keep", metavar="DIR", help="put the copy, the logs and the record into this new folder")
+    add("--keep", metavar="DIR", action=Once, help="put the copy, the logs and the record into this new folder")
     add("--no-sandbox", help="execute steps with all rights of the caller", **FLAG)
     add("--offline", help="take the network away (needs the sandbox)", **FLAG)
 
@@ -153,14 +165,17 @@ def complete(words: list[str], here: Path, top: Path) -> argparse.Namespace:
     """The options of the command line over those of the files, with secrets, variables and the like as maps."""
     user = Path(os.environ.get("XDG_CONFIG_HOME") or Path.home() / ".config") / "actrun" / RC_NAME
     own = top / RC_NAME
-    of_tree = parser(top, f"{own}: ")
-    check_repository(of_tree.parse_args(rc_words(own)), own)
+    of_tree = functools.partial(parser, top, f"{own}: ")
+    check_repository(of_tree().parse_args(rc_words(own)), own)
     options = parser(user.parent, f"{user}: ").parse_args(rc_words(user))
-    options = parser(here).parse_args(words, of_tree.parse_args(rc_words(own), options))
+    options = parser(here).parse_args(words, of_tree().parse_args(rc_words(own), options))
     options.line = parser(here).parse_args(words)  # (without those of the files, which may be for other workflows)
-    for option, pairs in (("--var", options.var), ("--input", options.input)):
-        for name in (name for name, value in pairs if not name or value is None):
-            raise Problem(f"{option} {name}: write {option} {name or 'NAME'}=VALUE")
+    for option in ("var", "input", "secret", "env"):
+        for name, value in getattr(options, option):
+            if not re.fullmatch(r"[^\s\"']+", name):
+                raise Problem(f"--{option} {name}: a name without blanks and quotes was expected, as --{option} NAME=VALUE")
+            if value is None and option in ("var", "input"):
+                raise Problem(f"--{option} {name}: write --{option} {name}=VALUE")
     options.secrets = {**named_values(options.secret_file, "--secret-file"), **{name: secret(name, value) for name, value in options.secret}}
     options.vars = {**named_values(options.var_file, "--var-file"), **dict(options.var)}
     options.inputs = {**named_values(options.input_file, "--input-file"), **dict(options.input)}
@@ -194,9 +209,9 @@ def named_stubs(file: Path | None) -> dict[str, str]:
 
 
 def read_text(file: Path, option: str) -> str:
-    """The text of a file that an option names."""
+    """The text of a file that an option names, without a byte order mark."""
     try:
-        return file.read_text(encoding="utf-8")
+        return file.read_text(encoding="utf-8-sig")
     except (OSError, UnicodeDecodeError) as error:
         why = error.strerror if isinstance(error, OSError) else "it is no UTF-8"
         raise Problem(f"{option} {file}: this file cannot be read ({why}): name another, or change its rights".strip()) from None

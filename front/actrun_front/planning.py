@@ -3,7 +3,7 @@ from __future__ import annotations
 
 import json
 import os
-from dataclasses import dataclass, field
+from dataclasses import dataclass, field, replace
 from pathlib import Path
 from typing import Any
 
@@ -17,7 +17,7 @@ from .lower import Lowered, Refused, Setting, lower
 from .lower_tree import part, steps_of, texts
 from .options import unknown_matrix
 from .present import Screen, one_line
-from .yaml_reader import Document, read_document
+from .yaml_reader import Document, copied, read_document
 
 
 @dataclass
@@ -71,7 +71,8 @@ def of_event(flows: list[Flow], event: str, job: str | None, screen: Screen) -> 
     having = [flow for flow in flows if job in flow.jobs]
     if job is None and not picked:
         events = sorted({name for flow in flows for name in flow.events})
-        raise Problem(f"no workflow is for the event {event}; there are: {', '.join(events) or 'none'}: name one of these")
+        raise Problem(f"no workflow is for the event {event}; there are: {', '.join(events)}: name one of these" if events else
+                      f"no workflow names an event: write `on: {event}` into {' or '.join(flow.name for flow in flows)}")
     if job is not None and not having:
         raise Problem(f"--job {job}: no workflow has that job; there are: {', '.join(sorted({name for flow in flows for name in flow.jobs}))}")
     both = picked if job is None else [flow for flow in having if flow in picked]
@@ -80,19 +81,38 @@ def of_event(flows: list[Flow], event: str, job: str | None, screen: Screen) -> 
     return both or having
 
 
+def lower_flows(flows: list[Flow], play: Play, screen: Screen) -> list[Flow]:
+    """The workflows, lowered, without those that cannot be, which are shown with line and remedy. At least one can be."""
+    lowered: list[Flow] = []
+    faults: list[str] = []
+    for flow in flows:
+        try:
+            lower_flow(flow, len(lowered), play, screen)
+            lowered.append(flow)
+        except Refused as refused:
+            faults.append(f"{flow.name}:{refused.line}: {refused.text}")
+    if not lowered:
+        raise Problem("\n".join(faults))
+    for fault in faults:
+        screen.tell(fault, "failure")
+    if faults:
+        screen.tell(f"note: {len(faults)} of {len(flows)} workflows cannot be planned: the others go on, and the status is 2", "warning")
+    check_names(flows, play)
+    return lowered
+
+
 def make_plan(flows: list[Flow], play: Play, screen: Screen) -> dict[str, Any]:
-    """Lowers the workflows, plans them, and gives each run its own contexts."""
-    for number, flow in enumerate(flows):
-        lower_flow(flow, number, play, screen)
+    """Plans lowered workflows, and gives each run its own contexts."""
     if flows[0].contexts["github"]["event"].keys() == {"repository", "sender"} and play.event != "workflow_call" and play.payload is None:
         screen.tell(f"note: github.event of {play.event} has only repository and sender: --eventpath FILE names a whole payload", "note")
-    check_names(flows, play)
     files = [str(play.room.private / f"{number}.json") for number in range(len(flows))]
     words = ["plan", *(["--job", play.options.job] if play.options.job else ["--event", play.event]), *files]
     answer = ask(*words)
     if answer.returncode != 0:
         line = (answer.stderr.strip().splitlines() or [f"actrun: plan ended with {answer.returncode}"])[-1]
         more = explain(line, words[0], words[1:], {file: (flow.name, flow.lowered.lines) for file, flow in zip(files, flows)})
+        for file, flow in zip(files, flows):  # (what the person knows)
+            line = line.replace(file, flow.name)
         raise Problem("\n".join(filter(None, [line.removeprefix("actrun: "), more])), answer.returncode)
     plan = json.loads(answer.stdout)
     for run, flow in zip(plan["runs"], flows):
@@ -105,26 +125,41 @@ def check_names(flows: list[Flow], play: Play) -> None:
     unknown = set(map(str.lower, play.options.inputs)) - {name.lower() for flow in flows for name in flow.contexts["inputs"]}
     if unknown:
         raise Problem(f"--input {min(unknown)}: no workflow declares this input for the event {play.event}")
-    wrong = unknown_matrix(play.options.line.matrix, {place for flow in flows for place in flow.lowered.asked})
+    # of a workflow that cannot be lowered, or left out by --job
+    left = {name: job for flow in flows for name, job in flow.jobs.items() if name not in part(flow.lowered.value, "jobs")}
+    given = [one for one in play.options.line.matrix if one[0][0] not in left]
+    wrong = unknown_matrix(given, {place for flow in flows for place in flow.lowered.asked})
     if wrong:
         raise Problem(wrong)
-    jobs = [job for flow in flows for job in part(flow.lowered.value, "jobs").values() if isinstance(job, dict)]
-    actions = sorted({step["uses"] for job in jobs for step in steps_of(job) if isinstance(step.get("uses"), str)})
+    jobs = [*left.values(), *(job for flow in flows for job in part(flow.lowered.value, "jobs").values())]
+    users = [user for job in jobs if isinstance(job, dict) for user in (job, *steps_of(job))]
+    actions = sorted({user["uses"] for user in users if isinstance(user.get("uses"), str)})
     for action, named in play.options.line.stub:
         if not any(named_program(text, {action: named}) for text in actions):
             raise Problem(f"--stub {action}={named}: no workflow of the event {play.event} uses this action{near(action, actions)}")
 
 
+def chosen(flow: Flow, job: str | None) -> Document:
+    """The workflow's document, with --job only that job and those that it needs, directly or not."""
+    if job not in flow.jobs:
+        return flow.document
+    kept = [job]
+    for name in kept:
+        kept += [need for need in texts(part(flow.jobs, name).get("needs")) if need in flow.jobs and need not in kept]
+    value = copied(flow.document.value)
+    for name in flow.jobs.keys() - set(kept):
+        del value["jobs"][name]
+    return replace(flow.document, value=value)
+
+
 def lower_flow(flow: Flow, number: int, play: Play, screen: Screen) -> None:
-    """Lowers one workflow into a file that the program reads, and shows what was rewritten."""
+    """Lowers one workflow into a file that the program reads, and shows what was rewritten. Raises Refused."""
     room, options = play.room, play.options
     flow.contexts = contexts(play, flow.name, flow.document.value)
     flow.contexts["github"]["event_path"] = str(room.play / "files" / f"event-{number}.json")
     top = room.tree if room.tree.exists() and not room.tree.is_symlink() else play.facts.top
-    try:
-        flow.lowered = lower(flow.document, flow.name, Setting(top, flow.contexts, options.matrices, bool(options.any_system), sh_line=SH_HOOK))
-    except Refused as refused:
-        raise Problem(f"{flow.name}:{refused.line}: {refused.text}") from None
+    setting = Setting(top, flow.contexts, options.matrices, bool(options.any_system), sh_line=SH_HOOK)
+    flow.lowered = lower(chosen(flow, options.job), flow.name, setting)
     for note in sorted({*flow.document.notes, *flow.lowered.notes}, key=lambda note: note.line):
         screen.tell(f"note: {flow.name}:{note.line}: {note.text}", "note")
     filtered = excluded(play, flow.events.get(play.event), flow.contexts["github"])

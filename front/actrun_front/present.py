@@ -1,6 +1,7 @@
 """Shows an execution to a person: live lines, the output of steps in groups, trees, tables and results."""
 from __future__ import annotations
 
+import functools
 import os
 import re
 import shutil
@@ -17,8 +18,9 @@ COLOURS = {"success": "32", "failure": "31", "cancelled": "33", "skipped": "90",
            "warning": "33"}
 SIGNS = {"success": ("✓", "ok"), "failure": ("✗", "FAILED"), "cancelled": ("⊘", "CANCELLED"), "skipped": ("-", "skipped"),
          "stalled": ("✗", "STALLED"), "interrupted": ("⊘", "INTERRUPTED")}
-MATRIX = re.compile(r"\$\{\{\s*matrix\.([\w-]+)\s*\}\}")
+MATRIX = re.compile(r"\$\{\{\s*matrix((?:\.[\w-]+)+)\s*\}\}")
 RUN_LINE = re.compile(r"run (\d+) (success|failure|cancelled|skipped|stalled)")
+NOT_UTF_8 = "(output is not UTF-8)"  # what the program shows of such a step, whose mark is in that output
 WHY_LINE = re.compile(r"( *)(job|leg|step) (\d+) \(")
 
 
@@ -40,7 +42,14 @@ class Leg:
 
     def filled(self, text: str) -> str:
         """A name with the values of the matrix that it mentions."""
-        return MATRIX.sub(lambda found: as_text(self.values.get(found[1], found[0])), text)
+        def value(found: re.Match[str]) -> str:
+            part: Any = self.values
+            for key in found[1].split(".")[1:]:
+                if not isinstance(part, dict) or key not in part:
+                    return found[0]
+                part = part[key]
+            return as_text(part)
+        return MATRIX.sub(value, text)
 
 
 def as_text(value: Any) -> str:
@@ -72,6 +81,13 @@ def mask(text: str, secrets: Iterable[str]) -> str:
     """The text with `***` in place of each secret."""
     words = sorted(filter(None, secrets), key=len, reverse=True)
     return re.sub("|".join(map(re.escape, words)), "***", text) if words else text
+
+
+def unmasked(line: str, secrets: Iterable[str]) -> Iterable[str]:
+    """A line of the program, and its forms with one secret in place of every `***`: to be read, never shown."""
+    yield line
+    if "***" in line:
+        yield from (line.replace("***", secret) for secret in secrets)
 
 
 class Screen:
@@ -126,13 +142,17 @@ class Board:
     screen: Screen
     legs: list[Leg]
     mark: str                                                     # of the lines that begin a step's output
+    secrets: list[str] = field(default_factory=list)              # that the program masks, in its own lines too
+    folder: Path | None = None                                    # of the logs
     stopped: str = ""                                             # by what
+    hidden: list[str] = field(default_factory=list)               # folders with programs that the sandbox hides, until that is said
     running: dict[int, int] = field(default_factory=dict)         # leg -> step
     refused: dict[int, str] = field(default_factory=dict)         # leg -> why the answer of its step is bad output
     ended: int = 0                                                # steps
     errors: list[str] = field(default_factory=list)               # lines of the program
     results: list[tuple[int, str]] = field(default_factory=list)  # runs and their results, when all lines came
     head: str = ""                                                # of the next line of output
+    unreadable: list[tuple[Path, int, int]] | None = None         # logs that are no UTF-8 with leg and step, as they ended, until they are shown
 
     def title(self, leg: int, step: int) -> str:
         """Leg and step in words."""
@@ -146,13 +166,14 @@ class Board:
 
     def progress(self, line: str) -> None:
         """Shows a line of standard error: a step started or ended, or an error. Where it cannot be shown, the program need not wait."""
-        found = read_progress(line)
+        found = next(filter(None, map(read_progress, unmasked(line, self.secrets))), None)
         try:
             if not found:
                 self.errors += [line] if line.startswith("actrun: ") else []
                 self.screen.tell(re.sub("^::(notice|warning|error)::", r"\1: ", line))
                 return
             leg, step, state, reason, seconds = found
+            reason = reason if reason.startswith("exit ") else mask(reason, self.secrets)
             if state == "refused":  # (the line of the step's end follows)
                 self.refused[leg] = reason
                 return
@@ -164,6 +185,9 @@ class Board:
                 self.ended += 1
                 words = [self.title(leg, step), f"stopped by {self.stopped}" if self.stopped and reason else reason, f"{seconds} s" if seconds else ""]
                 self.screen.result(state, ", ".join(filter(None, words)), sys.stderr)
+                if reason == "exit 127" and self.hidden:
+                    self.screen.tell(f"note: the sandbox hides programs in {', '.join(self.hidden)}; --no-sandbox shows them", "note")
+                    self.hidden = []
             self.screen.status("; ".join(f"{self.title(leg, step)} .." for leg, step in sorted(self.running.items())))
         except OSError:
             pass
@@ -184,22 +208,70 @@ class Board:
         self.results.clear()
         self.show(line)
 
+    def places(self) -> Iterable[tuple[int, int]]:
+        """Leg and step of each step."""
+        return ((leg.number, step) for leg in self.legs for step in range(len(leg.job["steps"])))
+
+    @functools.cached_property
+    def marks(self) -> dict[str, list[tuple[int, int]]]:
+        """The lines that begin a step's output, as the program shows them, and the steps with such a line."""
+        found: dict[str, list[tuple[int, int]]] = {}
+        for leg, step in self.places():
+            found.setdefault(mask(f"{self.mark}:{leg}-{step}", self.secrets), []).append((leg, step))
+        return found
+
+    def show_unreadable(self) -> str:
+        """Chooses the title of a step whose output is no UTF-8; gives the line that says where that is."""
+        if self.unreadable is None:
+            logs = {self.folder / f"step-{leg}-{step}.log": (leg, step) for leg, step in self.places()} if self.folder else {}
+            there = sorted(filter(is_binary, logs), key=os.path.getmtime)
+            self.unreadable = [(log, *logs[log]) for log in there]
+        if not self.unreadable:
+            return NOT_UTF_8
+        log, leg, step = self.unreadable.pop(0)
+        self.head = self.title(leg, step)
+        return f"(output is not UTF-8: {log} has it, unmasked)"
+
     def show(self, line: str) -> None:
         """Shows a line of a step, or keeps the title of the step whose lines follow."""
-        place = re.fullmatch(re.escape(self.mark) + r":(\d+)-(\d+)", line) if self.mark else None
-        if place:
-            self.head = self.title(int(place[1]), int(place[2]))
+        places = self.marks.get(line)
+        if places:
+            self.head = self.title(*places[0]) if len(places) == 1 else f"one of {len(places)} steps, whose numbers secrets mask"
             return
+        line = self.show_unreadable() if line == NOT_UTF_8 else line
         if self.head:
             self.screen.section(self.head)
             self.head = ""
         self.screen.say(line, {"error:": "failure", "warning:": "warning"}.get(line.split(" ", 1)[0], ""))
 
 
-def tree(plan: dict[str, Any], files: list[str], stands: dict[str, str]) -> Iterable[str]:
+def is_binary(path: Path) -> bool:
+    """Whether there is such a file, and it has no text in UTF-8."""
+    try:
+        if path.is_file() and not path.is_symlink():
+            with path.open(encoding="utf-8") as text:
+                while text.read(65536):
+                    pass
+    except (OSError, UnicodeDecodeError) as error:
+        return isinstance(error, UnicodeDecodeError)
+    return False
+
+
+def without_guard(condition: str, guards: Iterable[str]) -> str:
+    """A condition as the workflow has it, without a guard before it."""
+    for guard in guards:
+        if condition == guard:
+            return ""
+        if condition.startswith(f"({guard}) && ("):
+            return condition[len(guard) + 7:-1]
+    return condition
+
+
+def tree(plan: dict[str, Any], files: list[str], stands: dict[str, str], guards: Iterable[str]) -> Iterable[str]:
     """Runs, jobs, legs and steps of a plan; `stands` has the stub of each action."""
     def condition(part: dict[str, Any]) -> str:
-        return f", if {one_line(part['condition'])}" if part["condition"] else ""
+        text = without_guard(part["condition"] or "", guards)
+        return f", if {one_line(text)}" if text else ""
     legs = legs_of(plan)
     ids = {job["number"]: job["id"] for run in plan["runs"] for job in run["jobs"]}
     for run, file in zip(plan["runs"], files):

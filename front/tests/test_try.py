@@ -3,6 +3,7 @@ from __future__ import annotations
 
 import os
 import re
+import shlex
 import shutil
 import signal
 import subprocess
@@ -10,7 +11,7 @@ import time
 import unittest
 from pathlib import Path
 
-from .try_case import FRONT, NEEDS_PROGRAM, PROGRAM, TryCase, sandbox_works
+from .try_case import FRONT, NEEDS_PROGRAM, PROGRAM, WORKFLOW, TryCase, sandbox_works
 
 EXAMPLE = FRONT.parent / "examples" / "repository"
 
@@ -67,6 +68,15 @@ class Example(TryCase):
         self.assert_status(done, 0)
         self.assertRegex(done.stdout, r"^digraph plan \{\n(.*\n)*\}\n$")
         self.assertEqual(list((self.home / ".cache" / "actrun" / "work").iterdir()), [])
+
+    def test_the_tree_has_the_conditions_of_the_workflow(self) -> None:
+        self.workflow("- run: echo 1\n- run: echo 2\n  if: matrix.v", name="two.yml", head=WORKFLOW.replace("    runs-on: ubuntu-latest\n", """\
+    runs-on: ${{ matrix.os }}
+    strategy: {matrix: {os: [ubuntu-latest, windows-latest]}}
+"""))
+        done = self.attempt("-n", "-W", ".github/workflows/two.yml")
+        self.assert_status(done, 0)
+        self.assertIn("    0 echo 1\n    1 echo 2, if matrix.v\n", done.stdout)
 
     def test_a_folder_below_a_repository_is_a_project_of_its_own(self) -> None:
         outer = self.home / "outer"
@@ -145,6 +155,14 @@ class Steps(TryCase):
             self.assertIn(f"file left-{word}  M file\n?? left-{word}\n", done.stdout)
         self.assertEqual(list((self.work() / "play" / "legs").iterdir()), [])
 
+    def test_the_one_tree_that_is_left_is_named(self) -> None:
+        self.workflow("- run: exit 1", WORKFLOW.replace("  one:\n", "  two: {needs: one, steps: [{run: 'true'}]}\n  one:\n"))
+        done = self.attempt()
+        self.assert_status(done, 1)
+        tree = Path(re.search(r"(?m)^tree +(.+)$", done.stdout)[1])
+        self.assertEqual(tree, self.work() / "play" / "legs" / "0-0" / "project")
+        self.assertTrue((tree / ".github" / "workflows" / "ci.yml").is_file())
+
     def test_a_play_within_a_step(self) -> None:
         self.write("inner/.github/workflows/ci.yml", "on: push\njobs:\n  in:\n    runs-on: ubuntu-latest\n    steps:\n      - run: echo deep\n")
         self.workflow(f"- run: /usr/bin/python3 '{FRONT}' try -C inner --no-sandbox")
@@ -218,12 +236,23 @@ class Steps(TryCase):
         for path in (work / "private").iterdir():
             self.assertEqual(path.stat().st_mode & 0o777, 0o600, path)
 
-    def test_a_secret_that_is_part_of_each_mark(self) -> None:
-        self.workflow("- run: echo one\n- run: echo two")
-        done = self.attempt("-s", "SHORT=0")
+    def test_a_secret_that_the_lines_of_the_program_have(self) -> None:
+        self.workflow("- run: echo one\n- run: echo up; exit 3")
+        for secret in ("0", "x", "act", "abc123", "step"):
+            with self.subTest(secret):
+                done = self.attempt("-s", "ONE=another", "-s", f"SHORT={secret}")
+                self.assert_status(done, 1)
+                self.assertIn("--- one: echo one\none\n\n--- one: echo up; exit 3\nup\n", done.stdout)
+                self.assertRegex(done.stderr, r"(?m)^\S+ one: echo one, \S+ s$")
+                self.assertRegex(done.stderr, r"(?m)^\S+ one: echo up; exit 3, exit 3, \S+ s$")
+
+    def test_output_that_is_no_text_has_its_own_title(self) -> None:
+        self.workflow("- run: ':'\n- run: printf 'caf\\xe9\\n'\n- run: ':'\n- name: again\n  run: printf '\\xff'\n- run: echo end")
+        done = self.attempt()
         self.assert_status(done, 0)
-        self.assertIn("one\ntwo\n", done.stdout)
-        self.assertNotIn("actrun-", done.stdout.split("logs ")[0])
+        play = f"{self.work()}/play"
+        self.assertIn(f"--- one: printf 'caf\\xe9\\n'\n(output is not UTF-8: {play}/step-0-1.log has it, unmasked)\n\n"
+                      f"--- one: again\n(output is not UTF-8: {play}/step-0-3.log has it, unmasked)\n\n--- one: echo end\nend\n", done.stdout)
 
     def test_uncommitted_files_links_and_odd_names(self) -> None:
         self.workflow("""
@@ -345,6 +374,22 @@ class InSandbox(TryCase):
         self.assertIn("\nfirst: all\n", done.stdout)
         after = [path for path in sorted(self.home.rglob("*")) if self.home / ".cache" not in (path, *path.parents)]
         self.assertEqual(after, [path for path in before if self.home / ".cache" not in (path, *path.parents)])
+
+    def test_programs_in_home_are_said_to_be_hidden(self) -> None:
+        tool = self.home / ".tools" / "one" / "bin" / "own-tool"
+        for folder in (tool.parent, self.home / ".tools" / "two"):
+            folder.mkdir(parents=True)
+        tool.write_text("#!/bin/sh\necho here\n", encoding="utf-8")
+        tool.chmod(0o755)
+        self.workflow("- run: own-tool\n  continue-on-error: true\n- run: own-tool")
+        path = f"{tool.parent}:{self.home}/.tools/two:{os.environ['PATH']}:/nowhere:{self.home}"
+        note = re.compile(f"note: the sandbox hides programs in {self.home}/.tools[;,] .*--no-sandbox shows them\n")
+        self.assertEqual(len(note.findall(self.attempt(PATH=path).stderr)), 1)
+        done = self.attempt("--no-sandbox", PATH=path)
+        self.assert_status(done, 0)
+        self.assertNotRegex(done.stderr, note)
+        self.workflow("- run: exit 1")
+        self.assertNotRegex(self.attempt(PATH=path).stderr, note)
 
     def test_network_can_be_taken_away(self) -> None:
         self.workflow("- run: |\n    cat /proc/net/dev | tail -n +3 | cut -d: -f1 | tr -d ' '")
@@ -500,6 +545,16 @@ class BadInput(TryCase):
         self.write(".github/workflows/ci.yml", "- on\n")
         self.assert_error(self.attempt(), 2, ".github/workflows/ci.yml:1:")
 
+    def test_a_workflow_without_events(self) -> None:
+        self.workflow("- run: 'true'", WORKFLOW.replace("on: push\n", ""))
+        self.assert_error(self.attempt(), 2, "no workflow names an event: write `on: push` into .github/workflows/ci.yml\n")
+
+    def test_an_error_of_the_program_names_the_workflow(self) -> None:
+        self.workflow("- name: nothing to do")
+        done = self.attempt("-n")
+        self.assert_error(done, 2, "actrun: flow .github/workflows/ci.yml Missing\n", "ci.yml:6: jobs.one.steps.0: ")
+        self.assertNotIn("private", done.stderr)
+
     def test_event_and_job(self) -> None:
         self.workflow("- run: 'true'")
         self.assert_error(self.attempt("release"), 2, "the event release", "there are: push")
@@ -524,6 +579,26 @@ class BadInput(TryCase):
         self.write(".actrunrc", "--stub some/action=/bin/true\n--matrix two.v=[1]\n")  # (of other workflows)
         self.assert_status(self.attempt("-n", "--stub", "actions/checkout=/bin/true"), 0)
 
+    def test_a_job_does_not_ask_for_what_others_need(self) -> None:
+        self.workflow("- run: echo one", WORKFLOW.replace("  one:\n", """\
+  other:
+    needs: before
+    runs-on: ${{ matrix.os }}
+    strategy: {matrix: "${{ fromJSON(needs.before.outputs.m) }}"}
+    steps: [{uses: a/b@v1, if: "hashFiles('*')"}]
+  windows: {runs-on: windows-latest, steps: [{run: echo}]}
+  before: {runs-on: ubuntu-latest, steps: [{run: echo before}]}
+  one:
+    needs: before
+"""))
+        self.assertIn(":6: matrix of job other is", self.attempt("-n").stderr)
+        done = self.attempt("-n", "-j", "one", "--stub", "a/b=true", "--matrix", 'other.matrix={"os":["x"]}')
+        self.assert_status(done, 0)
+        self.assertEqual(done.stdout, ".github/workflows/ci.yml (.github/workflows/ci.yml)\n  job before\n    0 echo before\n"
+                                      "  job one, needs before\n    0 echo one\n")
+        self.assertEqual(done.stderr, "")
+        self.assertIn("--matrix oher.x: no job has this", self.attempt("-n", "-j", "one", "--matrix", "oher.x=[]").stderr)
+
     def test_a_broken_workflow_keeps_no_other_from_being_executed(self) -> None:
         self.write(".github/workflows/broken.yml", "on: release\non: push\n")
         self.workflow("- run: echo through")
@@ -532,6 +607,18 @@ class BadInput(TryCase):
         self.assertIn("through\n", done.stdout)
         self.assertIn('.github/workflows/broken.yml:2: the key "on" is twice in one map\n', done.stderr)
         self.assertIn("note: 1 of 2 workflows cannot be read: the others go on, and the status is 2\n", done.stderr)
+
+    def test_a_refused_workflow_keeps_no_other_from_being_executed(self) -> None:
+        self.write(".github/workflows/a.yml", "on: push\njobs:\n  a:\n    strategy: {matrix: \"${{ fromJSON(needs.x.outputs.m) }}\"}\n"
+                                              "    steps: [{uses: a/b@v1}]\n")
+        self.workflow("- run: echo through")
+        done = self.attempt("--stub", "a/b=true")
+        self.assert_status(done, 2)
+        self.assertIn("--- one: echo through\nthrough\n", done.stdout)
+        self.assertIn(".github/workflows/a.yml:4: matrix of job a is ", done.stderr)
+        self.assertIn("note: 1 of 2 workflows cannot be planned: the others go on, and the status is 2\n", done.stderr)
+        done = self.attempt("-W", ".github/workflows/a.yml")
+        self.assert_error(done, 2, "actrun: .github/workflows/a.yml:4: matrix of job a is ", "--matrix a.matrix=JSON\n")
 
     def test_secret_file(self) -> None:
         self.workflow("- run: 'true'")
@@ -588,6 +675,11 @@ class BadInput(TryCase):
         done = subprocess.run(self.command(), cwd=self.project, env=self.environment, stdout=writer, stderr=writer, check=False)
         os.close(writer)
         self.assertEqual(done.returncode, 3)
+        for closed in (">&-", "2>&-", ">&- 2>&-"):
+            done = subprocess.run(f"{shlex.join(self.command('-l'))} {closed}", shell=True, cwd=self.project, env=self.environment,
+                                  capture_output=True, check=False)
+            told = b"" if closed == ">&- 2>&-" else b"actrun: standard output or standard error is closed: send it to a file, as > /dev/null\n"
+            self.assertEqual((done.returncode, done.stdout + done.stderr), (3, told))
 
 
 @NEEDS_PROGRAM

@@ -2,8 +2,10 @@
 from __future__ import annotations
 
 import argparse
+import contextlib
 import dataclasses
 import fcntl
+import io
 import os
 import signal
 import tempfile
@@ -12,7 +14,7 @@ from pathlib import Path
 
 from actrun_front import Problem, options
 from actrun_front.contexts import Play, contexts, excluded, matches, payload, read_inputs, read_payload, triggers
-from actrun_front.environment import PASSED, marker, settle
+from actrun_front.environment import PASSED, settle
 from actrun_front.execute import Execution, read_progress
 from actrun_front.planning import Flow, job_rows
 from actrun_front.present import Board, Screen, legs_of, mask, one_line, placed, summaries, table
@@ -44,6 +46,12 @@ class Options(TryCase):
             "A": "plain text", "B": 'two\nlines "q"', "C": "kept \\n $x", "KEY": "-----BEGIN\nmiddle\n-----END", "E": "", "F": "a#b",
             "G": "x"})
 
+    def test_files_of_other_editors(self) -> None:
+        for text in ("\ufeffA=1\nB=2\n", "\ufeffA=1\r\nB=2\r\n"):
+            self.assertEqual(options.named_values(self.write("pairs", text), "--env-file"), {"A": "1", "B": "2"})
+        self.assertEqual(options.rc_words(self.write(".actrunrc", "\ufeff--workers 2\r\n-n\r\n")), ["--workers", "2", "-n"])
+        self.assertEqual(read_payload(self.write("event.json", '\ufeff{"a": 1}')), {"a": 1})
+
     def test_pairs_with_an_open_quote(self) -> None:
         for text in ('A=1\nB="unclosed\n', "A=1\nB= 'unclosed\nC=2\n", 'A=1\nB="un"closed\nC="x"\n'):
             with self.assertRaisesRegex(Problem, r"--secret-file .*pairs:2: a line NAME=VALUE was expected; a quote that begins VALUE has to end it"):
@@ -68,6 +76,26 @@ class Options(TryCase):
     def test_rc_file_with_a_word(self) -> None:
         with self.assertRaisesRegex(Problem, r"\.actrunrc:2: an option was expected"):
             options.rc_words(self.write(".actrunrc", "--workers 2\nworkers 3\n"))
+
+    def test_names_that_are_none(self) -> None:
+        for option in ("--var", "--input", "-s", "--env"):
+            for text in ("=x", '"A=b c"', "A B=x"):
+                with self.assertRaisesRegex(Problem, r"--\w+ .*: a name without blanks and quotes was expected, as --\w+ NAME=VALUE"):
+                    self.complete(option, text)
+        self.write(".actrunrc", '--env "A=b c"\n')
+        with self.assertRaisesRegex(Problem, '--env "A: a name without'):
+            self.complete()
+
+    def test_an_option_that_stands_twice(self) -> None:
+        for words in (["-j", "a", "--job", "b"], ["-W", "a", "-W", "b"], ["--env-file", "a", "--env-file", "b"], ["--workers=1", "--workers", "2"]):
+            with self.assertRaisesRegex(Problem, f"{words[-2]} stands twice: only one can count"):
+                self.complete(*words)
+        self.write(".actrunrc", "--workers 3\n--workers 4\n")
+        with self.assertRaisesRegex(Problem, r"\.actrunrc: --workers stands twice"):
+            self.complete()
+        self.write(".actrunrc", "--workers 3\n-j a\n")
+        chosen = self.complete("--workers", "4", "-s", "A=1", "-s", "B=2")
+        self.assertEqual((chosen.workers, chosen.job, chosen.secrets), (4, "a", {"A": "1", "B": "2"}))
 
     def test_in_place_has_one_worker(self) -> None:
         self.assertEqual(self.complete("--in-place").workers, 1)
@@ -311,11 +339,6 @@ class Surroundings(unittest.TestCase):
         given = ("PATH", "LC_ALL", "https_proxy", "NO_PROXY", "AWS_SECRET_ACCESS_KEY", "SSH_AUTH_SOCK", "ACTRUN_STEP", "PATHS", "ALC_X")
         self.assertEqual(list(filter(PASSED.fullmatch, given)), ["PATH", "LC_ALL", "https_proxy", "NO_PROXY"])
 
-    def test_marks(self) -> None:
-        self.assertRegex(marker(["a long secret", ""]), r"^actrun-[0-9a-f]{16}$")
-        for text in ("0", "3-1", "a:7"):
-            self.assertEqual(marker([text]), "")
-
     def settled(self, step: dict, own_trees: bool) -> dict:
         """One step of job 4 after `settle`."""
         plan = {"runs": [{"env": {}, "jobs": []}, {"env": {}, "jobs": [{"number": 4, "env": {}, "outputs": {}, "steps": [step]}]}]}
@@ -376,8 +399,27 @@ class Shown(unittest.TestCase):
         self.assertEqual(read_progress("leg 0 (t) step 1 of 4 bad output in 0.1 s, 3 of 9 steps"),
                          (0, 1, "failure", "its outputs or variables cannot be read", "0.1"))
         self.assertEqual(read_progress("leg 0 (t) step 1 of 4 refused: its file of outputs is refused: OpenBlock"),
-                         (0, 1, "refused", "its file of outputs is refused: OpenBlock", ""))
+                         (0, 1, "refused", "its file of outputs is refused: OpenBlock, the line that ends a NAME<<DELIMITER is missing", ""))
+        self.assertEqual(read_progress("leg 0 (t) step 1 of 4 refused: its file of outputs cannot be read: Is a directory"),
+                         (0, 1, "refused", "its file of outputs cannot be read: Is a directory", ""))
         self.assertIsNone(read_progress("actrun: io"))
+
+    def test_a_reason_with_a_secret_is_masked(self) -> None:
+        board = Board(Screen(), legs_of({"runs": [{"jobs": [{"name": "j", "legs": [{}], "steps": [{"name": "it", "work": {}}]}]}]}), "mark", ["s"])
+        with contextlib.redirect_stderr(io.StringIO()) as shown:
+            board.progress(mask("leg 0 (j) step 0 of 1 not started: it (/a/s is not there), 1 of 1 steps", ["s"]))
+        self.assertEqual(shown.getvalue().split(" ", 1)[1], "j: it, not ***tarted: /a/*** i*** not there\n")
+
+    def test_secrets_that_the_mark_of_a_step_has(self) -> None:
+        steps = [{"name": name, "work": {}} for name in ("first", "second")]
+        legs = legs_of({"runs": [{"jobs": [{"name": "j", "legs": [{}], "steps": steps}]}]})
+        for secrets, title in (([], "j: second"), (["ark"], "j: second"), (["ark", "0"], "j: second"),
+                               (["0", "1"], "one of 2 steps, whose numbers secrets mask")):
+            board = Board(Screen(), legs, "mark", secrets)
+            with contextlib.redirect_stdout(io.StringIO()) as shown:
+                board.show(mask("mark:0-1", secrets))
+                board.show("text")
+            self.assertEqual(shown.getvalue().strip(), f"--- {title}\ntext")
 
     def test_mask_takes_the_longest(self) -> None:
         self.assertEqual(mask("abcd abc x", ["abc", "abcd", ""]), "*** *** x")
@@ -411,6 +453,9 @@ class Shown(unittest.TestCase):
         self.assertEqual([leg.name for leg in legs], ["Tests (1)", "Tests"])
         named = legs_of({"runs": [{"jobs": [{**job, "name": name, "legs": [{"v": 1}]} for name in ("On ${{ matrix.v }}", "${{ matrix.w }}")]}]})
         self.assertEqual([leg.name for leg in named], ["On 1", "${{ matrix.w }} (1)"])
+        names = ("On ${{ matrix.c.os.name }} ${{ matrix.c.v }}", "On ${{ matrix.c.v.w }}", "On ${{ matrix.c.w }}")
+        named = legs_of({"runs": [{"jobs": [{**job, "name": name, "legs": [{"c": {"os": {"name": "mac"}, "v": 2}}]} for name in names]}]})
+        self.assertEqual([leg.name for leg in named], ["On mac 2", f"{names[1]} (Object)", f"{names[2]} (Object)"])
         values = [True, None, {"a": 1}, [1], 7, "x"]
         named = legs_of({"runs": [{"jobs": [{**job, "name": name, "legs": [{"v": it} for it in values]} for name in ("Tests", "On ${{ matrix.v }}")]}]})
         self.assertEqual([leg.name for leg in named], [form.format(text).strip() for form in ("Tests ({})", "On {}")
