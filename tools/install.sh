@@ -23,9 +23,9 @@ make_folder() {
   mkdir -m 755 -- "$prefix/$1" && echo "$1/" >>"$list"
 }
 
-# puts a file with a mode at a place below the prefix
+# puts a file with a mode at a place below the prefix; the list has it first, so that a part of it is removed too
 put() {
-  make_folder "${2%/*}" && install -m "$1" -- "$3" "$prefix/$2" && echo "$2" >>"$list"
+  make_folder "${2%/*}" && echo "$2" >>"$list" && install -m "$1" -- "$3" "$prefix/$2"
 }
 
 # Puts all parts and the program below `prefix`, and appends what was made to `list`.
@@ -35,8 +35,9 @@ put_parts() {
     put "$mode" "$place" "$top/$source" || return
   done < <(parts)
   put 755 lib/actrun/actrun "$program" || return
-  make_folder lib/actrun && printf 'actrun %s\n%s\n%s\n' "$version" "$toolchain" "$(proved_or_not)" >"$prefix/lib/actrun/version" &&
-    chmod 644 -- "$prefix/lib/actrun/version" && echo lib/actrun/version >>"$list"
+  make_folder lib/actrun && echo lib/actrun/version >>"$list" &&
+    printf 'actrun %s\n%s\n%s\n' "$version" "$toolchain" "$(proved_or_not)" >"$prefix/lib/actrun/version" &&
+    chmod 644 -- "$prefix/lib/actrun/version"
 }
 
 proved_or_not() {

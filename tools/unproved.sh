@@ -40,7 +40,7 @@ PLAN
 # program was built and could not be kept; where it cannot be built, all ends with status 3.
 build_unproved() {
   local folder=$top/crates/$1/out/unproved
-  mkdir -p -- "$folder" 2>/dev/null || return
+  { mkdir -p -- "$folder" && : >>"$folder/lock"; } 2>/dev/null || return
   {
     if command -v flock >/dev/null && ! flock -n 9; then
       say "another command builds $1 from these sources: waiting for it"
@@ -98,6 +98,7 @@ keep_copy() {
     rm -rf "$1"
     exit 3
   fi
-  cp -- "$1/program" "$2.part" && made_of "$2.part" "$3" >"$1/made_of" && rm -f -- "${2%/*}/made_of" &&
+  # (the copy is its owner's alone, but whoever may read the clone may execute its program)
+  cp -- "$1/program" "$2.part" && chmod +rx -- "$2.part" && made_of "$2.part" "$3" >"$1/made_of" && rm -f -- "${2%/*}/made_of" &&
     mv -f -- "$2.part" "$2" && cp -- "$1/made_of" "${2%/*}/made_of"
 }
