@@ -12,7 +12,7 @@ is_of_front() {
 # whether a command is a timeline by time
 is_by_time() {
   local word
-  [ "$1" = timeline ] || return
+  [ "${1-}" = timeline ] || return
   for word in "${@:2}"; do
     case $word in --times | --times=*) return ;; --) break ;; esac
   done
@@ -95,8 +95,27 @@ read_record() {
   done
 }
 
+# refuses an empty name of a file that `run` writes, before it executes anything
+refuse_unnamed() {
+  local word before=''
+  for word in "$@"; do
+    case $word in
+      --) return ;;
+      --record= | --times=) before=${word%=} word='' ;;
+    esac
+    case $word,$before in
+      ,--record | ,--times)
+        say "$before '' names no file, and nothing was executed: write a name, as in $before ci${before/--/.}"
+        exit 2
+        ;;
+    esac
+    before=$word
+  done
+}
+
 # starts the program; on a terminal the front explains what it refuses
 start_program() {
+  [ "$1" != run ] || refuse_unnamed "${@:2}"
   choose_starter "$@"
   if [ -t 2 ] && has_front; then explain_program "$@"; fi
   [ -n "$record" ] || exec "${starter[@]}" "$program" "$@"
@@ -112,7 +131,7 @@ start_program() {
 explain_program() {
   local room shows bound=(setpriv --pdeathsig TERM)
   "${bound[@]}" true 2>/dev/null || bound=()
-  room=$(mktemp -d) || return
+  room=$(mktemp -d 2>/dev/null) || return
   # shellcheck disable=SC2064
   trap "rm -rf ${room@Q}" EXIT
   exec 3> >(exec tee -i -- "$room/err" >&2)

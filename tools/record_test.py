@@ -209,6 +209,18 @@ class Growing(Case):
             self.assertEqual((answer.returncode, answer.stdout), (3, "shown\nrun 0 success\n"))
             self.assertEqual(answer.stderr, f"actrun: {folder}/r.part cannot be written ({why}); the plan is executed all the same\nactrun: io\n")
 
+    def test_an_empty_name_is_refused_before_anything_is_executed(self) -> None:
+        plan = self.plan([{"run": "touch here; echo shown"}])
+        for option in ("--record", "--times"):
+            for words in ([option, ""], [f"{option}="], ["--progress", option, ""]):
+                answer = self.run_words(self.script(*self.words(plan, *words)), cwd=self.room)
+                self.assertEqual((answer.returncode, answer.stdout, (self.work / "here").exists()), (2, "", False), words)
+                self.assertRegex(answer.stderr, rf"^actrun: {option} '' names no file, and nothing was executed: .* {option} ci\.\w+\n$")
+        (self.room / "--record").write_bytes(plan.read_bytes())
+        for words in (["--"], ["--workers", "1", "--progress", "--"]):
+            answer = self.run_words(self.script(program(), "run", "--work", str(self.work), *words, "--record"), cwd=self.room)
+            self.assertEqual((answer.returncode, answer.stdout), (0, "shown\nrun 0 success\n"), answer.stderr)
+
     def test_a_part_that_cannot_be_made_changes_no_more(self) -> None:
         self.part.mkdir()
         for code in (0, 1):
@@ -600,9 +612,11 @@ class Signalled(Case):
             with self.subTest(again=again):
                 (self.work / "here").unlink(missing_ok=True)
                 answer = self.stop(signal.SIGTERM, steps, again)
-                self.assertEqual((answer.returncode, answer.stdout), (143, ""))
+                told = [f"actrun: {log} has what its step printed so far, unmasked"]
+                if not again:  # (a second signal may end the script before it says so)
+                    self.assertEqual((answer.returncode, answer.stderr.splitlines()[-1:]), (143, told))
+                self.assertIn((answer.returncode, answer.stdout), ((143, ""), (-signal.SIGTERM, "")))
                 self.assertEqual((log.read_text(encoding="utf-8"), log.stat().st_mode & 0o777), ("out\nerr\ncry\n", 0o600))
-                self.assertEqual(answer.stderr.splitlines()[-1], f"actrun: {log} has what its step printed so far, unmasked")
                 self.assertEqual((self.work / "step-0-0.log").read_text(encoding="utf-8"), "shown\n")
 
     def test_a_signal_that_the_parent_ignores_is_ignored(self) -> None:
