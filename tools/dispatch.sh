@@ -71,7 +71,7 @@ choose_starter() {
   local signals=CHLD ignored
   starter=() record=''
   [ "$1" = run ] || return 0
-  read_record "${@:2}"
+  read_words "${@:2}"
   if [ -n "$record" ]; then
     ignored=$(trap -p INT QUIT)
     [[ $ignored == *SIGINT* ]] || signals+=,INT
@@ -84,38 +84,34 @@ choose_starter() {
   record=''
 }
 
-# sets `record` to the value of this option among the words of `run`
-read_record() {
+# Reads the words of `run`, and sets `record` to the value of this option. An empty name of a file that `run` writes is refused before
+# anything is executed; a folder that is not there is told.
+read_words() {
+  local name value
   while [ $# -gt 0 ] && [ "$1" != -- ]; do
+    name=$1 value=''
     case $1 in
-      --record=*) record=${1#*=} ;;
-      --record) record=${2-} ;;
+      --*=*) name=${1%%=*} value=${1#*=} ;;
+      --workers | --record | --times | --work | --stubs)
+        [ $# -gt 1 ] || return 0
+        value=$2
+        shift
+        ;;
+    esac
+    case $name,$value in
+      --record, | --times,)
+        say "$name '' names no file, and nothing was executed: write a name, as in $name ci${name/--/.}"
+        exit 2
+        ;;
+      --record,*) record=$value ;;
+      --work,?*) [ -d "$value" ] || say "--work $value: no step can start, for this is no folder: name one that is there" ;;
     esac
     shift
   done
 }
 
-# refuses an empty name of a file that `run` writes, before it executes anything
-refuse_unnamed() {
-  local word before=''
-  for word in "$@"; do
-    case $word in
-      --) return ;;
-      --record= | --times=) before=${word%=} word='' ;;
-    esac
-    case $word,$before in
-      ,--record | ,--times)
-        say "$before '' names no file, and nothing was executed: write a name, as in $before ci${before/--/.}"
-        exit 2
-        ;;
-    esac
-    before=$word
-  done
-}
-
 # starts the program; on a terminal the front explains what it refuses
 start_program() {
-  [ "$1" != run ] || refuse_unnamed "${@:2}"
   choose_starter "$@"
   if [ -t 2 ] && has_front; then explain_program "$@"; fi
   [ -n "$record" ] || exec "${starter[@]}" "$program" "$@"

@@ -221,6 +221,14 @@ class Growing(Case):
             answer = self.run_words(self.script(program(), "run", "--work", str(self.work), *words, "--record"), cwd=self.room)
             self.assertEqual((answer.returncode, answer.stdout), (0, "shown\nrun 0 success\n"), answer.stderr)
 
+    def test_a_folder_of_steps_that_is_not_there_is_told(self) -> None:
+        plan = self.plan([{"run": "echo shown"}])
+        for words in (["--work", str(plan)], [f"--work={self.room}/none"], ["--times", "--work", "--work", "none"]):
+            answer = self.run_words(self.script(program(), "run", *words, str(plan)), cwd=self.room)
+            folder = words[-1].removeprefix("--work=")
+            self.assertEqual(answer.stderr.splitlines()[0], f"actrun: --work {folder}: no step can start, for this is no folder: name one that is there")
+            self.assertEqual((answer.returncode, answer.stdout), (1, "run 0 failure\n") if words[0] != "--times" else (2, ""))
+
     def test_a_part_that_cannot_be_made_changes_no_more(self) -> None:
         self.part.mkdir()
         for code in (0, 1):
