@@ -19,7 +19,7 @@ from .environment import (HOME, SUDO, SUDO_OF_ROOT, hidden_programs, marker, san
                           write_prelude)
 from .execute import Execution, ask, program
 from .explain import explain
-from .planning import Flow, job_rows, lower_flows, make_plan, of_event, read_flows, workflow_files, write_private
+from .planning import Flow, job_rows, of_event, plan_flows, read_flows, workflow_files, write_private
 from .present import Board, Screen, legs_of, mask, one_line, placed, summaries, table, tree
 from .tree import find_project, find_top, git, read_facts
 
@@ -84,10 +84,9 @@ def attempt(arguments: list[str], screen: Screen) -> int:
         play = Play(event, facts, options, payload, room, 1 if looks else next_number(top), int(time.time() * 1000))
         for text in () if looks else rooms.copy_tree(facts, room, bool(options.in_place)):
             screen.tell(f"note: not copied: {text}", "note")
-        lowered = lower_flows(picked, play, screen)
-        least = 2 if len(lowered) < len(picked) else least
-        plan = make_plan(lowered, play, screen)
-        return max(look(plan, lowered, play, screen) if looks else Trial(lowered, play, plan, screen).execute(), least)
+        planned, plan = plan_flows(picked, play, screen)
+        least = 2 if len(planned) < len(picked) else least
+        return max(look(plan, planned, play, screen) if looks else Trial(planned, play, plan, screen).execute(), least)
     finally:
         room.lock.close()
         if looks or not (room.private / "record").exists():

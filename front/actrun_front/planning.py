@@ -3,6 +3,7 @@ from __future__ import annotations
 
 import json
 import os
+import subprocess
 from dataclasses import dataclass, field, replace
 from pathlib import Path
 from typing import Any
@@ -28,6 +29,7 @@ class Flow:
     document: Document
     contexts: dict[str, Any] = field(default_factory=dict)
     lowered: Lowered = field(default_factory=lambda: Lowered({}, {}))
+    file: Path = Path()                         # of the lowered workflow, which the program reads
 
     def __post_init__(self) -> None:
         self.jobs = part(self.document.value, "jobs")      # as they are in the file
@@ -81,8 +83,34 @@ def of_event(flows: list[Flow], event: str, job: str | None, screen: Screen) -> 
     return both or having
 
 
-def lower_flows(flows: list[Flow], play: Play, screen: Screen) -> list[Flow]:
-    """The workflows, lowered, without those that cannot be, which are shown with line and remedy. At least one can be."""
+def plan_flows(flows: list[Flow], play: Play, screen: Screen) -> tuple[list[Flow], dict[str, Any]]:
+    """The workflows without those that cannot be planned, which are shown with line and remedy, and the plan. At least one can be."""
+    lowered, faults = lower_flows(flows, play, screen)
+    answer = ask_plan(lowered, play) if lowered else None
+    if answer and answer.returncode == 2:
+        answers = [(flow, ask_plan([flow], play)) for flow in lowered]
+        faults += [why_unplanned([flow], one, play) for flow, one in answers if one.returncode == 2]
+        lowered = [flow for flow, one in answers if one.returncode != 2]
+        answer = ask_plan(lowered, play) if lowered else None
+    if not answer:
+        raise Problem("\n".join(faults))
+    for fault in faults:
+        screen.tell(fault, "failure")
+    if faults:
+        screen.tell(f"note: {len(faults)} of {len(flows)} workflows cannot be planned: the others go on, and the status is 2", "warning")
+    check_names(flows, play)
+    if answer.returncode != 0:
+        raise Problem(why_unplanned(lowered, answer, play), answer.returncode)
+    if lowered[0].contexts["github"]["event"].keys() == {"repository", "sender"} and play.event != "workflow_call" and play.payload is None:
+        screen.tell(f"note: github.event of {play.event} has only repository and sender: --eventpath FILE names a whole payload", "note")
+    plan = json.loads(answer.stdout)
+    for run, flow in zip(plan["runs"], lowered):
+        run["roots"] = {name: flow.contexts[name] for name in ("github", "inputs", "secrets", "vars")}
+    return lowered, plan
+
+
+def lower_flows(flows: list[Flow], play: Play, screen: Screen) -> tuple[list[Flow], list[str]]:
+    """The workflows that can be lowered, and the faults of the others."""
     lowered: list[Flow] = []
     faults: list[str] = []
     for flow in flows:
@@ -91,33 +119,27 @@ def lower_flows(flows: list[Flow], play: Play, screen: Screen) -> list[Flow]:
             lowered.append(flow)
         except Refused as refused:
             faults.append(f"{flow.name}:{refused.line}: {refused.text}")
-    if not lowered:
-        raise Problem("\n".join(faults))
-    for fault in faults:
-        screen.tell(fault, "failure")
-    if faults:
-        screen.tell(f"note: {len(faults)} of {len(flows)} workflows cannot be planned: the others go on, and the status is 2", "warning")
-    check_names(flows, play)
-    return lowered
+    return lowered, faults
 
 
-def make_plan(flows: list[Flow], play: Play, screen: Screen) -> dict[str, Any]:
-    """Plans lowered workflows, and gives each run its own contexts."""
-    if flows[0].contexts["github"]["event"].keys() == {"repository", "sender"} and play.event != "workflow_call" and play.payload is None:
-        screen.tell(f"note: github.event of {play.event} has only repository and sender: --eventpath FILE names a whole payload", "note")
-    files = [str(play.room.private / f"{number}.json") for number in range(len(flows))]
-    words = ["plan", *(["--job", play.options.job] if play.options.job else ["--event", play.event]), *files]
-    answer = ask(*words)
-    if answer.returncode != 0:
-        line = (answer.stderr.strip().splitlines() or [f"actrun: plan ended with {answer.returncode}"])[-1]
-        more = explain(line, words[0], words[1:], {file: (flow.name, flow.lowered.lines) for file, flow in zip(files, flows)})
-        for file, flow in zip(files, flows):  # (what the person knows)
-            line = line.replace(file, flow.name)
-        raise Problem("\n".join(filter(None, [line.removeprefix("actrun: "), more])), answer.returncode)
-    plan = json.loads(answer.stdout)
-    for run, flow in zip(plan["runs"], flows):
-        run["roots"] = {name: flow.contexts[name] for name in ("github", "inputs", "secrets", "vars")}
-    return plan
+def plan_words(flows: list[Flow], play: Play) -> list[str]:
+    """The command that plans lowered workflows."""
+    return ["plan", *(["--job", play.options.job] if play.options.job else ["--event", play.event]), *map(str, (flow.file for flow in flows))]
+
+
+def ask_plan(flows: list[Flow], play: Play) -> subprocess.CompletedProcess[str]:
+    """What the program answers to that command."""
+    return ask(*plan_words(flows, play))
+
+
+def why_unplanned(flows: list[Flow], answer: subprocess.CompletedProcess[str], play: Play) -> str:
+    """The last line of an answer that is no plan, and what explains it."""
+    line = (answer.stderr.strip().splitlines() or [f"actrun: plan ended with {answer.returncode}"])[-1]
+    command, *words = plan_words(flows, play)
+    more = explain(line, command, words, {str(flow.file): (flow.name, flow.lowered.lines) for flow in flows})
+    for flow in flows:  # (what the person knows)
+        line = line.replace(str(flow.file), flow.name)
+    return "\n".join(filter(None, [line.removeprefix("actrun: "), more]))
 
 
 def check_names(flows: list[Flow], play: Play) -> None:
@@ -165,8 +187,8 @@ def lower_flow(flow: Flow, number: int, play: Play, screen: Screen) -> None:
     filtered = excluded(play, flow.events.get(play.event), flow.contexts["github"])
     if filtered:
         screen.tell(f"note: {flow.name}: on GitHub its filter would keep it from this event ({filtered})", "note")
-    value = flow.lowered.value
-    write_private(room.private / f"{number}.json", json.dumps({"name": flow.name, **value} if isinstance(value, dict) else value, ensure_ascii=False))
+    value, flow.file = flow.lowered.value, room.private / f"{number}.json"
+    write_private(flow.file, json.dumps({"name": flow.name, **value} if isinstance(value, dict) else value, ensure_ascii=False))
 
 
 def write_private(path: Path, text: str) -> None:

@@ -620,6 +620,18 @@ class BadInput(TryCase):
         done = self.attempt("-W", ".github/workflows/a.yml")
         self.assert_error(done, 2, "actrun: .github/workflows/a.yml:4: matrix of job a is ", "--matrix a.matrix=JSON\n")
 
+    def test_a_workflow_that_the_program_cannot_plan_keeps_no_other_from_being_executed(self) -> None:
+        self.write(".github/workflows/a.yml", "on: push\njobs:\n  a:\n    needs: b\n    steps: [{run: a}]\n  b:\n    needs: a\n    steps: [{run: b}]\n")
+        self.workflow("- run: echo through")
+        done = self.attempt()
+        self.assert_status(done, 2)
+        self.assertIn("--- one: echo through\nthrough\n", done.stdout)
+        cycle = "plan Cycle\n.github/workflows/a.yml:4: jobs.a.needs: this job needs `b`, which needs `a`: take one of the needs out\n"
+        self.assertIn(cycle, done.stderr)
+        self.assertIn("note: 1 of 2 workflows cannot be planned: the others go on, and the status is 2\n", done.stderr)
+        self.workflow("- name: nothing to do")
+        self.assert_error(self.attempt(), 2, f"actrun: {cycle}", "flow .github/workflows/ci.yml Missing\n")
+
     def test_secret_file(self) -> None:
         self.workflow("- run: 'true'")
         self.assert_error(self.attempt("--secret-file", "nowhere"), 2, "--secret-file", "nowhere")
