@@ -1,4 +1,4 @@
-"""The front of actrun: `python3 FRONT try|from-yaml|dap|report|timeline|explain ARGUMENTS`.
+"""The front of actrun: `python3 FRONT try|from-yaml|debug|dap|report|timeline|explain ARGUMENTS`.
 
 Where the running Python has no `ruamel.yaml`, the system's Python takes over.
 """
@@ -8,19 +8,21 @@ import signal
 import sys
 
 SYSTEM_PYTHON = "/usr/bin/python3"
-COMMANDS = {"try": "attempt", "from-yaml": "from_yaml", "dap": "dap", "report": "report", "timeline": "timeline",
+COMMANDS = {"try": "attempt", "from-yaml": "from_yaml", "debug": "debug", "dap": "dap", "report": "report", "timeline": "timeline",
             "explain": "explain"}
 
 
 def main(arguments):
     """Exit status of the command that the first argument names."""
     if not arguments or arguments[0] not in COMMANDS:
-        print("usage: python3 front try|from-yaml|dap|report|timeline|explain ARGUMENTS", file=sys.stderr)
+        print("usage: python3 front try|from-yaml|debug|dap|report|timeline|explain ARGUMENTS", file=sys.stderr)
         return 2
     try:
         import ruamel.yaml  # noqa: F401
     except ImportError:
         if os.environ.get("ACTRUN_SYSTEM_PYTHON") or not os.path.exists(SYSTEM_PYTHON):
+            if arguments[0] == "debug":  # (which needs no front, but for its prompt)
+                os.execv(os.environ["ACTRUN_PROGRAM"], ["actrun", *arguments])
             print("actrun: the Python library ruamel.yaml is missing: install it with `apt-get install "
                   "python3-ruamel.yaml` or `pip install ruamel.yaml`", file=sys.stderr)
             return 3

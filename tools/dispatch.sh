@@ -19,6 +19,11 @@ is_by_time() {
   false
 }
 
+# whether a person on a terminal debugs a record, which the front has a prompt for
+is_talk() {
+  [ "$1" = debug ] && [ $# -eq 2 ] && [ -t 0 ] && [ -t 1 ] && [ -f "$2" ] && has_front
+}
+
 # whether a word is among others
 has_word() {
   local word wanted=$1
@@ -253,6 +258,6 @@ in_session() {
 
 # answers a command by the program that was chosen, or by the front
 answer() {
-  if is_of_front "$@"; then start_front "$@"; fi
+  if is_of_front "$@" || is_talk "$@"; then start_front "$@"; fi
   start_program "$@"
 }

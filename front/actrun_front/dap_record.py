@@ -8,7 +8,7 @@ import pathlib
 import re
 import subprocess
 from dataclasses import dataclass, field
-from typing import Any, Sequence
+from typing import Sequence
 
 from . import Problem
 from .explain import explain
@@ -84,7 +84,9 @@ class Walker:
         if not record.is_file():
             raise Problem(f"{record}: there is no such file; `record` has to name one that `actrun run --record` or `try` wrote")
         self.place = self.last = 0
-        self.process = subprocess.Popen([program, "debug", record], stdin=subprocess.PIPE, stdout=subprocess.PIPE, stderr=subprocess.PIPE)
+        # (in a session of its own, where Ctrl-C does not end it)
+        self.process = subprocess.Popen([program, "debug", record], stdin=subprocess.PIPE, stdout=subprocess.PIPE, stderr=subprocess.PIPE,
+                                        start_new_session=True)
         try:
             self.go("goto 0")
         except Problem as fault:
@@ -92,13 +94,17 @@ class Walker:
             raise refused(record, str(fault)) from None
 
     def ask(self, command: str) -> str:
-        """The answer, or its first line, to a command."""
+        """The answer, or its first line, to a command; the place that it names is kept."""
         try:
-            self.process.stdin.write(command.encode("ascii") + b"\n")
+            self.process.stdin.write(command.encode("utf-8", "replace") + b"\n")
             self.process.stdin.flush()
         except OSError:
             pass  # the program has ended, and the read says why
-        return self.line()
+        line = self.line()
+        reached = PLACE.fullmatch(line)
+        if reached:
+            self.place, self.last = int(reached[1]), int(reached[2])
+        return line
 
     def line(self) -> str:
         line = self.process.stdout.readline()
@@ -108,11 +114,8 @@ class Walker:
         return line.decode("utf-8")[:-1]
 
     def go(self, command: str) -> bool:
-        """Whether a move reached a place, which is kept."""
-        reached = PLACE.fullmatch(self.ask(command))
-        if reached:
-            self.place, self.last = int(reached[1]), int(reached[2])
-        return bool(reached)
+        """Whether a move reached a place."""
+        return PLACE.fullmatch(self.ask(command)) is not None
 
     def end_of(self, leg: int) -> int | None:
         """The later place where a leg ends, if there is one."""
@@ -124,13 +127,18 @@ class Walker:
         self.go(f"goto {before}")
         return found
 
+    def board(self) -> list[str]:
+        """The lines of the board at the place, of which `ends` is the last."""
+        lines = [self.ask("show")]
+        while not lines[-1].startswith("ends"):
+            lines.append(self.line())
+        return lines
+
     def show(self) -> Board:
-        """The board at the place; the line `ends` is its last one."""
-        board, line = Board(), self.ask("show")
-        while not line.startswith("ends"):
+        """The board at the place."""
+        board = Board()
+        for line in self.board():
             board.take(line)
-            line = self.line()
-        board.take(line)
         return board
 
     def close(self) -> None:
