@@ -13,6 +13,12 @@ import globs
 import step
 
 ADDS = re.compile(r"v?[123](\.|$)|[0-9a-f]{40}$")  # the refs whose upload adds to an artifact; of a commit nobody knows
+NESTS = re.compile(r"v?[1234](\.|$)")  # the refs whose download puts the one artifact of an id into a folder of its name
+
+
+def number(name: str) -> str:
+    """The id of the artifact of a name."""
+    return str(int(hashlib.sha256(name.encode(errors="surrogateescape")).hexdigest()[:8], 16))
 
 
 def upload(ref: str) -> None:
@@ -47,21 +53,31 @@ def keep(found: list[pathlib.Path], root: pathlib.Path, name: str, ref: str) -> 
     digests = [f"{place.relative_to(final)}\0{hashlib.sha256(place.read_bytes()).hexdigest()}\n"
                for place in sorted(final.rglob("*")) if place.is_file()]
     step.set_output("artifact-digest", hashlib.sha256("".join(digests).encode(errors="surrogateescape")).hexdigest())
+    step.set_output("artifact-id", number(name))
+    step.set_output("artifact-url", final.as_uri())
     print(f"artifact {name}: {len(found)} file{'' if len(found) == 1 else 's'} in {final}")
 
 
-def download() -> None:
-    """Copies artifacts of this play below `path`: one by its name, else each that `pattern` matches into a folder of its name."""
-    for name in ("run-id", "artifact-ids"):
-        if step.given(name) not in ("", os.environ.get("GITHUB_RUN_ID")):
-            step.fail(f"the input `{name}` asks for artifacts of another run; only those of this run are there")
+def download(ref: str) -> None:
+    """Copies artifacts of this play below `path`: one by its name, else those of some ids, or each that `pattern` matches, into folders
+    of their names."""
+    if step.given("run-id") not in ("", os.environ.get("GITHUB_RUN_ID")):
+        step.fail("the input `run-id` asks for artifacts of another run; only those of this run are there")
     target = pathlib.Path(os.path.normpath(step.folder() / os.path.expanduser(step.given("path", "."))))
     there, name = sorted(step.folder("ACTRUN_ARTIFACTS").iterdir()), step.given("name")
-    found = [place for place in there if (place.name == name if name else fnmatch.fnmatchcase(place.name, step.given("pattern", "*")))]
-    if name and not found:
-        step.fail(f"there is no artifact {name} in this run; there are: {', '.join(place.name for place in there) or 'none'}")
+    ids = list(filter(None, map(str.strip, step.given("artifact-ids").split(","))))
+    if name and ids:
+        step.fail("the inputs `name` and `artifact-ids` exclude one another")
+    if ids:
+        found = [place for place in there if number(place.name) in ids]
+    else:
+        found = [place for place in there if (place.name == name if name else fnmatch.fnmatchcase(place.name, step.given("pattern", "*")))]
+    if name and not found or len(found) < len(set(ids)):
+        missing = name or "of the id " + next(it for it in ids if it not in [number(place.name) for place in found])
+        step.fail(f"there is no artifact {missing} in this run; there are: {', '.join(place.name for place in there) or 'none'}")
+    direct = name or step.given_flag("merge-multiple") or len(ids) == 1 and not NESTS.match(ref)
     for artifact in found:
-        into = target if name or step.given_flag("merge-multiple") else target / artifact.name
+        into = target if direct else target / artifact.name
         shutil.copytree(artifact, into, dirs_exist_ok=True)
         print(f"artifact {artifact.name} is in {into}")
     if not found:
@@ -75,7 +91,7 @@ def main(text: str) -> None:
     if name == "actions/upload-artifact":
         upload(ref)
     else:
-        download()
+        download(ref)
 
 
 if __name__ == "__main__":

@@ -10,6 +10,7 @@ import subprocess
 import sys
 import tarfile
 import unittest
+import urllib.parse
 
 from actrun_front import actions
 from tests.stub_case import StubCase
@@ -190,8 +191,8 @@ class Artifacts(StubCase):
         given = {"path": path, **{name.replace("_", "-"): value for name, value in inputs.items()}}
         return self.start(f"actions/upload-artifact@{ref}", given)
 
-    def download(self, **inputs: str):
-        return self.start("actions/download-artifact@v4", {name.replace("_", "-"): value for name, value in inputs.items()})
+    def download(self, ref: str = "v4", **inputs: str):
+        return self.start(f"actions/download-artifact@{ref}", {name.replace("_", "-"): value for name, value in inputs.items()})
 
     def kept(self) -> list[str]:
         return self.files_below("artifacts")
@@ -300,6 +301,23 @@ class Artifacts(StubCase):
         self.three()
         self.download(pattern="lib-*", merge_multiple="true", path=str(self.room / "temporary/all"))
         self.assertEqual(self.files_below("temporary/all"), ["lib-a.txt", "lib-b.txt"])
+
+    def test_some_by_their_ids(self) -> None:
+        made = {}
+        for name in ("a", "b", "c"):
+            self.write(f"tree/{name}.txt", name)
+            made[name] = self.upload(f"{name}.txt", name=name).outputs
+        self.assertEqual(urllib.parse.unquote(made["a"]["artifact-url"]), f"file://{self.room.resolve()}/artifacts/a")
+        ids = {name: outputs["artifact-id"] for name, outputs in made.items()}
+        self.assertEqual((len(set(ids.values())), all(map(str.isdecimal, ids.values()))), (3, True))
+        for path, ref, wanted, files in (("two", "v4", "ac", ["a/a.txt", "c/c.txt"]), ("nested", "v4.3.0", "b", ["b/b.txt"]),
+                                         ("direct", "v5", "b", ["b.txt"]), ("several", "v5", "ab", ["a/a.txt", "b/b.txt"])):
+            self.assertEqual(self.download(ref, artifact_ids=", ".join(ids[it] for it in wanted), path=path).code, 0)
+            self.assertEqual(self.files_below(f"tree/{path}"), files)
+        ended = self.download(artifact_ids=f"{ids['a']},7")
+        self.assertEqual(ended.code, 1)
+        self.assertIn("there is no artifact of the id 7 in this run; there are: a, b, c", ended.shown)
+        self.assertIn("exclude one another", self.download(name="a", artifact_ids="7").shown)
 
     def test_another_run_is_refused(self) -> None:
         ended = self.download(name="x", run_id="12")
