@@ -704,6 +704,8 @@ class Signalled(Case):
         self.part.write_text("earlier\n", encoding="utf-8")
         with subprocess.Popen(self.script(*self.words(Path("/dev/stdin"))), stdin=subprocess.PIPE, stdout=subprocess.PIPE,
                               stderr=subprocess.PIPE, text=True, start_new_session=True) as child:
+            while not Path(f"/proc/{child.pid}/task/{child.pid}/children").read_text(encoding="ascii"):
+                time.sleep(0.02)
             time.sleep(1)  # (the program waits for its plan)
             child.terminate()
             child.wait(30)
@@ -720,13 +722,15 @@ class Signalled(Case):
 
     @unittest.skipUnless(shutil.which("setpriv"), "setpriv is missing")
     def test_the_program_ends_where_the_script_is_killed(self) -> None:
-        plan = self.plan([{"run": "echo $PPID > here; sleep 0.5"}, {"run": "touch after"}])
+        plan = self.plan([{"run": "echo $PPID > here; sleep 3"}, {"run": "touch after"}])
         with subprocess.Popen(self.script(*self.words(plan)), stdout=subprocess.DEVNULL) as child:
             while not ((self.work / "here").exists() and (self.work / "here").stat().st_size):
                 time.sleep(0.02)
             child.kill()
-        time.sleep(1)
-        self.assertFalse((self.work / "after").exists())
+        place, until = Path("/proc") / (self.work / "here").read_text(encoding="utf-8").strip(), time.monotonic() + 20
+        while place.exists() and time.monotonic() < until:
+            time.sleep(0.02)
+        self.assertEqual((place.exists(), (self.work / "after").exists()), (False, False))
         self.lines(self.part)
 
 

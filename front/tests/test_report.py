@@ -17,7 +17,7 @@ import time
 import unittest
 from argparse import Namespace
 from pathlib import Path
-from typing import Any
+from typing import Any, Callable
 from unittest import mock
 
 from actrun_front import Problem, dap_logs, report, report_data
@@ -237,11 +237,15 @@ class Seen(ReportCase):
         """Opens a page; the milliseconds until it was drawn."""
         self.browser.get("about:blank")
         self.browser.get(f"file://{page}{place}")
+        self.wait_for(lambda: self.js("return document.documentElement.dataset.ready") == "yes")
+        return self.js("return performance.now()")
+
+    def wait_for(self, there: Callable[[], bool]) -> None:
+        """Waits until something is so, at most a minute."""
         until = time.monotonic() + 60
-        while self.js("return document.documentElement.dataset.ready") != "yes":
+        while not there():
             self.assertLess(time.monotonic(), until, self.browser.get_log("browser"))
             time.sleep(0.02)
-        return self.js("return performance.now()")
 
     def js(self, script: str, *given: Any) -> Any:
         return self.browser.execute_script(script, *given)
@@ -301,9 +305,7 @@ class Seen(ReportCase):
         self.assertEqual([self.press("p"), self.press("p"), self.press("p"), self.press("n")], [23, 16, 16, 23])
         self.assertEqual([self.press("f"), self.press("F"), self.press("F"), self.press("f", "f")], [27, 23, 23, 23])  # (after the last one the first)
         self.assertEqual(self.press(Keys.HOME, " "), 0)
-        until = time.monotonic() + 20
-        while self.press() < 3 and time.monotonic() < until:
-            time.sleep(0.1)
+        self.wait_for(lambda: self.press() >= 3)
         self.assertGreaterEqual(self.press(" "), 3)
         self.assertEqual(self.press(), self.press())
         self.assertEqual([self.chosen(), self.press(Keys.ARROW_DOWN) >= 0, self.chosen()], ["step 0", True, "step 1"])
@@ -319,11 +321,10 @@ class Seen(ReportCase):
         self.open(page, "#17")
         self.assertEqual(self.press(), 17)
         self.js("const it = document.querySelector('#slider'); it.value = 9; it.dispatchEvent(new Event('input'))")
-        time.sleep(0.5)
-        self.assertEqual([self.press(), self.js("return location.hash")], [9, "#9"])
+        self.assertEqual(self.press(), 9)
+        self.wait_for(lambda: self.js("return location.hash") == "#9")
         self.js("location.hash = '#31'")
-        time.sleep(0.2)
-        self.assertEqual(self.press(), 31)
+        self.wait_for(lambda: self.press() == 31)
         self.assertIn("place 31 of 38", self.js("return document.querySelector('#slider').getAttribute('aria-valuetext')"))
         self.open(page, "#99999")
         self.assertEqual(self.press(), 38)
