@@ -37,7 +37,7 @@ def main(arguments: list[str]) -> int:
     try:
         prompt = Prompt(walker, Record(program(), path.read_bytes()), changes_of(path))
         sys.stdout.reconfigure(errors="backslashreplace")  # type: ignore[union-attr]
-        print(f"{path}: {walker.last} events; `help` lists the commands")
+        print(f"{path}: {walker.last} event{'s' * (walker.last != 1)}; `help` lists the commands")
         prompt.talk()
         return 0
     except KeyboardInterrupt:  # (not at the prompt)
