@@ -93,22 +93,22 @@ choose() {
   fi
   [ -e "$top/$out/made_of" ] || [ -e "$top/$out/unproved/made_of" ] || return 1
   # (its time is before the sum, so that whatever changes meanwhile is newer)
-  { : >"$chosen.$$"; } 2>/dev/null
+  { : >"$chosen.$BASHPID"; } 2>/dev/null
   for name in "$out/$1" "$out/unproved/$1"; do
     case $name in */unproved/*) how=unproved ;; *) how=proved ;; esac
     if [ -x "$top/$name" ] && is_made_of "$top/$name" "$(sources "$1" "$how")"; then
       program=$top/$name
-      [ ! -e "$chosen.$$" ] || keep_choice "$1" "$name" "$chosen"
+      [ ! -e "$chosen.$BASHPID" ] || keep_choice "$1" "$name" "$chosen"
       return
     fi
   done
-  rm -f -- "$chosen.$$"
+  rm -f -- "$chosen.$BASHPID"
   return 1
 }
 
 keep_choice() {
-  watched "$1" "$2" >"$3.$$.new" && touch -r "$3.$$" "$3.$$.new" && mv -f -- "$3.$$.new" "$3"
-  rm -f -- "$3.$$" "$3.$$.new"
+  watched "$1" "$2" >"$3.$BASHPID.new" && touch -r "$3.$BASHPID" "$3.$BASHPID.new" && mv -f -- "$3.$BASHPID.new" "$3"
+  rm -f -- "$3.$BASHPID" "$3.$BASHPID.new"
 }
 
 # the processor minutes of each crate's proof: 'CRATE MINUTES' a line
