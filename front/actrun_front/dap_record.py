@@ -127,7 +127,7 @@ class Walker:
         self.go(f"goto {before}")
         return found
 
-    def board(self) -> list[str]:
+    def board_lines(self) -> list[str]:
         """The lines of the board at the place, of which `ends` is the last."""
         lines = [self.ask("show")]
         while not lines[-1].startswith("ends"):
@@ -137,7 +137,7 @@ class Walker:
     def show(self) -> Board:
         """The board at the place."""
         board = Board()
-        for line in self.board():
+        for line in self.board_lines():
             board.take(line)
         return board
 

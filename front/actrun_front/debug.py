@@ -21,7 +21,7 @@ HELP = """\
   why ..              why things are so here, as `actrun why` says: why leg 0
   quit, Ctrl-D        end
 An empty line repeats the last one, Tab completes."""
-REMEDIES = {"debug NoBreak": "no break holds further on: `break failed` sets one where a leg fails", "debug NoPlace": "the prompt has the last one",
+REMEDIES = {"debug NoBreak": "no break holds further on: `break failed` sets one where a leg fails", "debug NoPlace": "the places are 0 to {last}",
             "debug AtEnd": "this is the last place", "debug AtStart": "this is the first place", "unknown command": "`help` lists the commands"}
 WORDS = {"": ["step", "back", "goto", "go", "go-back", "break", "clear", "show", "why", "help", "quit"],
          "break": ["failed", "leg", "step", "ends"], "clear": ["failed", "leg", "step", "ends"], "why": ["all", "run", "job", "leg", "step"]}
@@ -78,6 +78,9 @@ class Prompt:
     record: Record
     changes: list[list[str]]
 
+    def __post_init__(self) -> None:
+        self.masks = plan_masks(self.record.plan)
+
     def talk(self) -> None:
         """Answers the lines of a person until there are no more."""
         try:
@@ -110,18 +113,18 @@ class Prompt:
         elif command == "why":
             yield self.why(words)
         elif line == "show":
-            yield from self.walker.board()
+            yield from self.walker.board_lines()
         else:
             answer, place = self.walker.ask(line), self.walker.place
-            yield f"{answer}: {REMEDIES[answer]}" if answer in REMEDIES else answer
+            yield f"{answer}: {REMEDIES[answer].format(last=self.walker.last)}" if answer in REMEDIES else answer
             if PLACE.fullmatch(answer) and place:
-                yield f"  {plan_masks(self.record.plan).hide(self.record.happened(place))}"
+                yield f"  {self.masks.hide(self.record.happened(place))}"
                 yield from (f"    {change}" for change in self.changes[place])
 
     def why(self, words: list[str]) -> str:
         """What `actrun why` says of the record up to the place."""
         try:
-            return plan_masks(self.record.plan).hide(self.record.why(self.walker.place, words))
+            return self.masks.hide(self.record.why(self.walker.place, words))
         except Problem as problem:
             return str(problem)
         except KeyboardInterrupt:  # (a big record may take long)

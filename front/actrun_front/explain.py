@@ -151,8 +151,8 @@ def unwritable(record: str) -> str | None:
 def explain_io(files: list[str], work: str, record: str) -> str:
     """Which file or folder cannot be opened, in the order in which a command opens them; else that a stream failed."""
     reason = next(filter(None, map(unreadable, files)), None)
-    if reason or not os.path.isdir(work):
-        return reason or f"the folder {work or repr(work)} of --work is not there: mkdir -p it"
+    if reason or not work:
+        return reason or "--work '' names no folder: write one"
     reason = unwritable(record) if record else None
     for folder in filter(os.path.isdir, (work, os.path.dirname(record) or ".")):
         space = os.statvfs(folder)

@@ -44,7 +44,7 @@ class Answers(unittest.TestCase):
     def test_remedies(self) -> None:
         self.assertEqual([self.ask(line) for line in ("go", "back", "goto 99", "stpe")], [
             ["debug NoBreak: no break holds further on: `break failed` sets one where a leg fails"],
-            ["debug AtStart: this is the first place"], ["debug NoPlace: the prompt has the last one"],
+            ["debug AtStart: this is the first place"], ["debug NoPlace: the places are 0 to 38"],
             ["unknown command: `help` lists the commands"]])
 
     def test_why_is_that_of_the_place(self) -> None:
