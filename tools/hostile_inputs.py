@@ -230,7 +230,7 @@ def template(chance):
 # JSON
 
 class Raw:
-    """JSON text that stands in a value as it is."""
+    """JSON text that is in a value as it is."""
 
     def __init__(self, text):
         self.text = text

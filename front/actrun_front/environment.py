@@ -5,16 +5,17 @@ import os
 import re
 import secrets
 import shlex
-import shutil
-import subprocess
 from pathlib import Path
 from typing import Any, Mapping
 
+from . import toolchains
 from .contexts import text_of
 from .expressions import TEXT, Access, Rules, has_expression, literal, rewrite, split, unquoted
 from .present import step_name
-from .tree import Room, cache_root
+from .sandbox import HOME, PROC, ROOT_KEEPS, RUN, hidden_programs, sandbox_words, why_no_sandbox
+from .tree import Room
 
+__all__ = ["HOME", "PROC", "ROOT_KEEPS", "RUN", "hidden_programs", "sandbox_words", "why_no_sandbox"]
 # the first words of a script for sh, which has no BASH_ENV
 SH_HOOK = '[ -z "${ACTRUN_PRELUDE-}" ] || . "$ACTRUN_PRELUDE"; '
 # what steps get of the caller's own environment: no variable of these usually holds a secret
@@ -26,11 +27,46 @@ PRELUDE = """\
 case ${{GITHUB_OUTPUT-}} in
 "${{ACTRUN_STEP-}}") ;;
 {play}/step-*.out)
+  if [ -z "${{ACTRUN_PIPED-}}" ] && [ -x {python} ] && [ -r {one_stream} ]; then  # both streams become one
+    export ACTRUN_PIPED=1
+    if [ -x "$0" ]; then set -- "$0" "$@"  # (of an action)
+    else case ${{BASH_VERSION:+bash}},${{SHELLOPTS-}} in
+      ,* | *posix*) set -- sh -e "$0" ;;
+      *pipefail*) set -- "$BASH" --noprofile --norc -eo pipefail "$0" ;;
+      *) set -- "$BASH" -e "$0" ;;
+    esac; fi
+    trap '' INT  # (until that handles it)
+    exec {python} -ISB {one_stream} "$@"
+  fi
+  [ -n "${{ACTRUN_PIPED-}}" ] || exec 2>&1
   ACTRUN_STEP=$GITHUB_OUTPUT
   actrun_place=${{GITHUB_OUTPUT##*/step-}}
   actrun_place=${{actrun_place%.out}}
   printf '%s\n' "{mark}:$actrun_place"
-  if [ -e {files}/stopped ]; then cat {files}/stopped; exit 130; fi
+  if [ -n "${{ACTRUN_JOB_NAME-}}" ]; then printf '%s\n' "{mark}+${{ACTRUN_JOB_NAME%%
+*}}"; fi
+  if [ -n "${{ACTRUN_NAME-}}" ]; then printf '%s\n' "{mark}-${{ACTRUN_NAME%%
+*}}"; fi
+  if [ -d {told}/known-"$actrun_place" ]; then
+    cd {told}/known-"$actrun_place" && command -p cat out >>"$GITHUB_OUTPUT" && command -p cat env >>"$GITHUB_ENV" &&
+      command -p cat log && exit "$(command -p cat code)"
+    exit 1
+  fi
+  if [ -e {told}/stopped-${{actrun_place%-*}} ]; then
+    {{
+      IFS= read -r actrun_why
+      while IFS= read -r actrun_line; do [ "$actrun_line" != "${{actrun_place#*-}}" ] || actrun_why=; done
+    }} <{told}/stopped-${{actrun_place%-*}}
+    if [ -n "$actrun_why" ]; then
+      printf 'ACTRUN_STOPPED=true\n' >>"$GITHUB_ENV"
+      printf '%s\n' "$actrun_why"
+      exit 130
+    fi
+  fi
+  for actrun_line in "${{ACTRUN_MINUTES-}}" "${{ACTRUN_JOB_MINUTES-}}"; do case $actrun_line in
+  *[!0-9.]*|*.*.*|.|*.)
+    printf '%s\n' "::error::timeout-minutes is $actrun_line, but has to be a number"; exit 1
+  esac; done
   GITHUB_PATH={files}/path-${{actrun_place%-*}}
   GITHUB_STEP_SUMMARY={files}/summary-$actrun_place
   : >>"$GITHUB_PATH" >>"$GITHUB_STEP_SUMMARY"
@@ -41,6 +77,11 @@ case ${{GITHUB_OUTPUT-}} in
       {{ echo "the tree cannot be copied to $GITHUB_WORKSPACE"; exit 1; }}
   fi
   CDPATH= cd -- "$GITHUB_WORKSPACE" || exit 1
+  if [ -n "${{ACTRUN_NEEDS-}}" ] && [ ! -e "$ACTRUN_NEEDS/action.yml" ] && [ ! -e "$ACTRUN_NEEDS/action.yaml" ]; then
+    echo "::error::Can't find 'action.yml' or 'action.yaml' under '$ACTRUN_NEEDS'. Did you forget to run actions/checkout" \
+      "before running your local action?"
+    exit 1
+  fi
   if [ -n "${{ACTRUN_DIRECTORY-}}" ]; then
     CDPATH= cd -- "$ACTRUN_DIRECTORY" || {{ echo "the working-directory $ACTRUN_DIRECTORY is not there"; exit 1; }}
   fi
@@ -48,27 +89,23 @@ case ${{GITHUB_OUTPUT-}} in
     if [ -n "$actrun_line" ]; then PATH=$actrun_line:$PATH; fi
   done <"$GITHUB_PATH"
   export ACTRUN_STEP PATH GITHUB_PATH GITHUB_STEP_SUMMARY RUNNER_WORKSPACE
-  unset actrun_place actrun_line ACTRUN_DIRECTORY OLDPWD
+  unset actrun_place actrun_line actrun_why OLDPWD
+  unset ACTRUN_DIRECTORY ACTRUN_NEEDS ACTRUN_PIPED ACTRUN_NAME ACTRUN_JOB_NAME
   ;;
 esac
+if [ -n "${{ACTRUN_PATH-}}" ]; then
+  actrun_rest=$PATH: actrun_new= actrun_known=$ACTRUN_PATH:/usr/local/sbin:/usr/local/bin:/usr/local/games
+  while [ -n "$actrun_rest" ]; do
+    actrun_line=${{actrun_rest%%:*}} actrun_rest=${{actrun_rest#*:}}
+    case :$actrun_known:/usr/sbin:/usr/bin:/usr/games:/sbin:/bin: in
+    *:"$actrun_line":*) ;; *) actrun_new=$actrun_new$actrun_line: ;; esac
+  done
+  PATH=$actrun_new$ACTRUN_PATH
+  unset ACTRUN_PATH actrun_rest actrun_new actrun_line actrun_known
+fi
 if [ -n "${{BASH_VERSION-}}" ] && [ -r "${{ACTRUN_BASH_ENV-}}" ]; then . "$ACTRUN_BASH_ENV"; fi
 """
-# a program `sudo` for the sandbox: there root executes the command, and anybody else reads what to do
-SUDO_HINT = "sudo: the sandbox shows the system read-only: `actrun try --no-sandbox` lets steps change this machine"
-SUDO = f"#!/bin/sh\necho '{SUDO_HINT}' >&2\nexit 1\n"
-SUDO_OF_ROOT = f"""\
-#!/bin/sh
-while :; do case ${{1-}} in -[ugCphU]) shift 2 ;; -*) shift ;; *) break ;; esac; done
-[ $# -eq 0 ] || env -- "$@" || {{ status=$?; echo '{SUDO_HINT}' >&2; exit "$status"; }}
-"""
-# root keeps what changes files and persons inside, and nothing by which it could leave
-ROOT_KEEPS = ("CHOWN", "DAC_OVERRIDE", "FOWNER", "FSETID", "KILL", "SETGID", "SETUID", "SETPCAP", "NET_BIND_SERVICE", "SYS_CHROOT")
-# the home folder of steps, as on GitHub; in that of the caller are only the folders of the execution
-HOME = Path("/home/runner")
-# parts of /proc in which root could change the machine
-PROC = ("sys", "sysrq-trigger", "irq", "bus", "fs", "scsi", "acpi", "mtrr")
-# of /run, which has the sockets of servers outside, only what names are looked up by and some systems' programs
-RUN = ("/run/systemd/resolve", "/run/resolvconf", "/run/nscd", "/run/current-system", "/run/wrappers", "/run/opengl-driver")
+ONE_STREAM = Path(__file__).resolve().parent.parent / "stubs" / "one_stream.py"
 
 
 def marker() -> str:
@@ -76,12 +113,13 @@ def marker() -> str:
     return f"actrun-{secrets.token_hex(8)}"
 
 
-def write_prelude(room: Room, mark: str) -> Path:
-    """Writes the prelude of an execution."""
+def write_prelude(room: Room, mark: str, told: Path, python: str = "/usr/bin/python3") -> Path:
+    """Writes the prelude of an execution, which reads in the folder `told` what the front says to steps; `python` is there in the
+    sandbox, too."""
     path = room.play / "files" / "prelude.sh"
-    play, files, tree = (shlex.quote(str(place)) for place in (room.play, path.parent, room.tree))
-    path.write_text(PRELUDE.format(mark=mark, play=play, files=files, tree=tree),
-                    encoding="utf-8")
+    places = {"play": room.play, "files": path.parent, "tree": room.tree, "told": told, "python": python, "one_stream": ONE_STREAM}
+    quoted = {name: shlex.quote(str(place)) for name, place in places.items()}
+    path.write_text(PRELUDE.format(mark=mark, **quoted), encoding="utf-8")
     return path
 
 
@@ -156,53 +194,6 @@ def variables(room: Room, contexts: Mapping[str, Any], prelude: Path, cache: Pat
         **{f"GITHUB_{name.upper()}": text_of(value) for name, value in github.items() if name not in NO_VARIABLES},
         **{f"RUNNER_{name.upper()}": value for name, value in contexts["runner"].items() if value},
         "CI": "true", "GITHUB_ACTIONS": "true", "GITHUB_PATH": str(files / "path"), "GITHUB_STEP_SUMMARY": str(files / "summary"),
+        "ACTRUN_TOOLS": toolchains.variable(),
         "BASH_ENV": str(prelude), "ACTRUN_PRELUDE": str(prelude), "ACTRUN_CACHE": str(cache),
         "ACTRUN_ARTIFACTS": str(room.play / "artifacts"), "RUNNER_WORKSPACE": os.path.dirname(github["workspace"])}
-
-
-def sandbox_words(room: Room, readable: list[Path], writable: list[Path], offline: bool) -> list[str]:
-    """The words before the command that executes inside. All caches are hidden but for what is named readable or writable."""
-    result = ["bwrap", "--ro-bind", "/", "/", "--dev", "/dev", "--proc", "/proc", "--unshare-pid", "--unshare-ipc", "--die-with-parent"]
-
-    def bind(kind: str, *paths: str | Path, at: str | Path = "") -> None:
-        for path in paths:
-            result.extend([kind, os.fspath(path), os.fspath(at or path)])
-    if os.geteuid() == 0:
-        result += ["--cap-drop", "ALL", *(word for name in ROOT_KEEPS for word in ("--cap-add", f"CAP_{name}"))]
-    if offline:
-        result.append("--unshare-net")
-    bind("--ro-bind", *(f"/proc/{name}" for name in PROC if os.path.exists(f"/proc/{name}")))
-    home = Path.home()
-    hidden = {Path("/home"), Path("/root"), Path("/run"), home, home.resolve(), cache_root(), room.folder} - {Path("/")}
-    for folder in sorted(hidden, key=lambda path: len(path.parts)):
-        if folder.is_dir() or folder == home:
-            result += ["--tmpfs", os.fspath(folder)]
-    if HOME.parent.is_dir():
-        result += ["--dir", os.fspath(HOME)]
-    bind("--ro-bind-try", *RUN, *(name for name in [os.path.realpath("/etc/resolv.conf")] if name.startswith("/run/")))
-    bind("--bind", room.play / "tmp", at="/tmp")
-    bind("--bind", room.play / "tmp", at="/var/tmp")
-    bind("--ro-bind", *readable)
-    for link in room.objects.glob("*"):
-        if link.is_dir():
-            bind("--ro-bind", os.path.realpath(link), at=link)
-    bind("--bind", *writable, room.play)
-    return [*result, "--chdir", os.fspath(room.play), "--"]
-
-
-def hidden_programs(path: str) -> list[str]:
-    """The folders right below a home folder that have folders of PATH, and that the sandbox hides."""
-    homes = {Path("/home"), Path("/root"), Path.home(), Path.home().resolve()} - {Path("/")}
-    lines = [(Path(folder), *Path(folder).parents) for folder in path.split(":") if os.path.isdir(folder)]
-    belows = (next((below for below, home in zip(line, line[1:]) if home in homes), None) for line in lines)
-    return list(dict.fromkeys(str(below) for below in belows if below))
-
-
-def why_no_sandbox(sandbox: list[str]) -> str | None:
-    """Why the sandbox of these words cannot be used; None where it works."""
-    if shutil.which("bwrap") is None:
-        return "bwrap is not installed (apt-get install bubblewrap)"
-    answer = subprocess.run([*sandbox, "/bin/sh", "-c", ":"], stdin=subprocess.DEVNULL, capture_output=True, check=False)
-    if answer.returncode == 0:
-        return None
-    return "bwrap fails: " + (answer.stderr.decode("utf-8", "replace").strip().splitlines() or ["it says nothing"])[-1]
