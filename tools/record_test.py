@@ -71,7 +71,7 @@ class Case(unittest.TestCase):
         self.work.mkdir()
 
     def plan(self, steps: list[dict], legs: int = 1, jobs: int = 1, secrets: dict[str, str] | None = None) -> Path:
-        """The plan of jobs with these steps, each with so many legs, over these secrets."""
+        """The plan of jobs with these steps, each with that many legs, over these secrets."""
         matrix = {"strategy": {"fail-fast": False, "matrix": {"leg": list(range(legs))}}}
         job = {"runs-on": "x", "steps": steps, **(matrix if legs > 1 else {})}
         flow = {"on": "push", "jobs": {f"job-{number}": job for number in range(jobs)}}
@@ -291,6 +291,25 @@ class Growing(Case):
             self.assertEqual((done.returncode, told), (3, [*first, "actrun: io", f"  {small}: No space left on device: make room there, or name "
                                                            "another place, and start again"]))
             self.assertRegex(last, f"^  {small}/{kept}")
+
+    @unittest.skipUnless(os.geteuid() == 0, "only root can mount a small file system")
+    def test_a_step_that_fills_the_disk_is_no_failure_of_the_workflow(self) -> None:
+        self.mount(self.work)
+        plan = self.plan([{"run": "cat /dev/zero > big"}])
+        answer = self.run_words(self.script(*self.words(plan)))
+        told = f"actrun: ended by the system: {self.work}: No space left on device: make room there, or name another place by --work and --record\n"
+        self.assertEqual((answer.returncode, answer.stderr), (3, told))
+        self.assertTrue(answer.stdout.endswith("run 0 failure\n"))
+        answer = self.run_words(self.script(*self.words(self.plan([{"run": "rm big; exit 1"}]))))
+        self.assertEqual((answer.returncode, answer.stderr), (3 if "big" in os.listdir(self.work) else 1, told if "big" in os.listdir(self.work) else ""))
+
+    def test_a_limit_of_the_size_of_files_is_told(self) -> None:
+        plan = self.plan([{"run": "printf 'word=%060000d\\n' 1 >> $GITHUB_OUTPUT"}] * 4)
+        words = ["bash", "-c", 'ulimit -f 100 && exec "$@"', "bash"]
+        answer = self.run_words([*words, *self.script(*self.words(plan))])
+        self.assertEqual(answer.returncode, 3, answer.stderr)
+        self.assertIn("actrun: ended by the system: a file reached the limit of `ulimit -f`: raise this limit\n", answer.stderr)
+        self.assertEqual(self.run_words([*words, *self.words(plan)]).returncode, -signal.SIGXFSZ)
 
     def test_many_legs(self) -> None:
         """The part grows to the record, which has each leg once."""
@@ -547,7 +566,7 @@ class Signalled(Case):
     def setUp(self) -> None:
         super().setUp()
         # (also where the tests are started in the background or by `nohup`)
-        for number, handler in ((signal.SIGINT, signal.default_int_handler), (signal.SIGHUP, signal.SIG_DFL)):
+        for number, handler in ((signal.SIGINT, signal.default_int_handler), (signal.SIGHUP, signal.SIG_DFL), (signal.SIGQUIT, signal.SIG_DFL)):
             self.addCleanup(signal.signal, number, signal.signal(number, handler))
 
     def stop(self, number: int, steps: list[dict] | None = None, again: bool = False) -> subprocess.CompletedProcess[str]:
@@ -568,7 +587,7 @@ class Signalled(Case):
         return subprocess.CompletedProcess(words, child.returncode, out, err)
 
     def test_a_signal_ends_the_steps_and_the_record_is_named(self) -> None:
-        for number, status in ((signal.SIGINT, 130), (signal.SIGTERM, 143), (signal.SIGHUP, 129)):
+        for number, status in ((signal.SIGINT, 130), (signal.SIGTERM, 143), (signal.SIGHUP, 129), (signal.SIGQUIT, 131)):
             with self.subTest(number=number):
                 (self.work / "here").unlink(missing_ok=True)
                 answer = self.stop(number)
@@ -679,7 +698,7 @@ class Signalled(Case):
     def test_where_setsid_is_missing_the_program_is_started_alone(self) -> None:
         tools = self.room / "tools"
         tools.mkdir()
-        for name in ("bash", "env", "setpriv", "true"):
+        for name in ("bash", "env", "flock", "setpriv", "true"):
             (tools / name).symlink_to(str(shutil.which(name)))
         words = self.script(*self.words(self.plan([{"run": "echo shown"}])))
         answer = self.run_words(words, env={**os.environ, "PATH": str(tools)})
