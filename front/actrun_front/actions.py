@@ -13,9 +13,11 @@ import re
 import shlex
 import shutil
 from dataclasses import dataclass, field
-from typing import Iterable
+from types import MappingProxyType
+from typing import Iterable, Mapping
 
 PRELUDE = '[ -z "${ACTRUN_PRELUDE-}" ] || . "$ACTRUN_PRELUDE"'
+IN_COPY = "$GITHUB_WORKSPACE/"  # begins the name of a program in the copy of the repository
 STUBS = pathlib.Path(__file__).resolve().parent.parent / "stubs"
 
 
@@ -28,8 +30,8 @@ class Stubs:
     """What `stubs_for` decided for the `uses` texts of a plan."""
 
     programs: dict[str, str] = field(default_factory=dict)  # text of `uses` -> wrapper script, the file of `run --stubs`
-    missing: list[str] = field(default_factory=list)  # no program stands for these: their steps fail and say so
-    lenient: list[str] = field(default_factory=list)  # likewise, but their steps are skipped with a warning
+    missing: list[str] = field(default_factory=list)  # no program replaces these: their steps fail and say so
+    lenient: list[str] = field(default_factory=list)  # also these, but their steps are skipped with a warning
     named: list[str] = field(default_factory=list)  # the user named a program for these
     binds: list[pathlib.Path] = field(default_factory=list)  # what a sandbox has to show, read-only
 
@@ -57,6 +59,8 @@ def check_program(action: str, program: str) -> pathlib.Path | None:
 
     Raises StubError where there is no such program, or it is not executable.
     """
+    if program.startswith(IN_COPY):
+        return None
     found = shutil.which(program)
     if found is None:
         reason = "is not executable: chmod +x it" if os.path.isfile(program) else "is not there"
@@ -64,10 +68,14 @@ def check_program(action: str, program: str) -> pathlib.Path | None:
     return pathlib.Path(os.path.abspath(found)) if os.path.isabs(program) else None
 
 
-def stubs_for(uses: Iterable[str], named: dict[str, str], lenient: bool, folder: pathlib.Path, python: str) -> Stubs:
-    """Writes one wrapper script below `folder` for each `uses` text and returns which program stands for what.
+def stubs_for(uses: Iterable[str], named: dict[str, str], lenient: bool, folder: pathlib.Path, python: str,
+              commands: Mapping[str, list[str]] = MappingProxyType({}),
+              reasons: Mapping[str, str] = MappingProxyType({})) -> Stubs:
+    """Writes one wrapper script below `folder` for each `uses` text and returns which program replaces which action.
 
     `named` maps actions to programs as `--stub ACTION=PROGRAM` gives them, with or without `@ref`; the longest match wins.
+    By the `uses` text `commands` has the words behind `python` that execute an action itself, and `reasons`
+    why a step fails.
     Raises StubError where a named program isn't there.
     """
     stubs = Stubs(binds=[STUBS.parent, *filter(None, (check_program(action, program) for action, program in named.items()))])
@@ -76,22 +84,29 @@ def stubs_for(uses: Iterable[str], named: dict[str, str], lenient: bool, folder:
     folder.mkdir(parents=True, exist_ok=True)
     for number, text in enumerate(sorted(set(uses))):
         program, stub = named_program(text, named), shipped.get(action_name(text)) or "without.py"
-        command = [program] if program is not None else [python, "-EsB", str(STUBS / stub), text]
+        stub = "without.py" if text in reasons else stub
+        of_python = commands.get(text, [str(STUBS / stub), text])
+        command = [program] if program is not None else [python, "-EsB", *of_python]
         if program is not None:
             stubs.named.append(text)
-        elif stub == "without.py":
+        elif text not in commands and stub == "setup.py":
+            command += ["--lenient"] if lenient else []
+        elif text not in commands and stub == "without.py":
             (stubs.lenient if lenient else stubs.missing).append(text)
+            command += [f"--why={reasons[text]}"] if text in reasons else []
             command += ["--lenient"] if lenient else []
         place = folder / f"{number:03}-{re.sub(r'[^A-Za-z0-9.]+', '-', text).strip('-')[:60]}"
-        place.write_text(f"#!{bash}\n{PRELUDE}\nACTRUN_ACTION={shlex.quote(text)} exec {shlex.join(command)}\n", encoding="utf-8")
+        words = f'"$GITHUB_WORKSPACE"/{shlex.quote(program[len(IN_COPY):])}' if (program or "").startswith(IN_COPY) else shlex.join(command)
+        place.write_text(f"#!{bash}\n{PRELUDE}\nACTRUN_ACTION={shlex.quote(text)} exec {words}\n", encoding="utf-8")
         place.chmod(0o755)
         stubs.programs[text] = str(place.resolve())
     return stubs
 
 
-def after_play(python: str, record: pathlib.Path) -> list[str]:
+def after_play(python: str, of: pathlib.Path | int) -> list[str]:
     """The command that saves the caches which successful legs asked for, once `run` has written its record.
 
-    It runs in the same room as the steps (their sandbox and variables), since caches often lie in the home folder.
+    It runs in the same room as the steps (their sandbox and variables), since caches often lie in the home folder. It is of all
+    legs by a record, or of one leg, whose result is its last argument.
     """
-    return [python, "-EsB", str(STUBS / "cache.py"), "--after", str(record)]
+    return [python, "-EsB", str(STUBS / "cache.py"), "--after-leg" if isinstance(of, int) else "--after", str(of)]

@@ -1,34 +1,61 @@
-"""Composite actions and called workflows of the repository: their steps and jobs take the place of what uses them.
+"""Composite actions and called workflows: their steps and jobs take the place of what uses them.
 
-A called workflow of another repository becomes one step with `uses`.
+Only with the `actions` of a setting are actions of other repositories and JavaScript actions more than one step
+with `uses`, as a called workflow of another repository is.
 """
 from __future__ import annotations
 
+import os
+import posixpath
 import re
 import shlex
-from typing import Any, Dict, List, Set, Tuple
+from dataclasses import replace
+from pathlib import Path
+from typing import Any, Dict, List, NamedTuple, Set, Tuple
 
-from .expressions import (EvaluationError, Rules, as_text, condition_expression, conjunction, expression_of, grouped, has_expression,
-                          inner_condition, known_keys, literal, names_status, reads_only, references, rewrite, rewrite_condition,
-                          rewrite_template)
+from . import syntax
+from .expressions import (EvaluationError, Rules, as_text, condition_expression, conjunction,
+                          expression_of, grouped, has_expression, inner_condition, known_keys, literal,
+                          names_status, reads_only, references, rewrite, rewrite_condition, rewrite_template)
+from .action_sources import FILES, Action, ActionError, Source, read_action
+from .actions import action_name
+from .files import read_inside
+from .lower_javascript import JAVASCRIPT, Around, check_defaults
+from .lower_checks import failing_step
+from .lower_legs import match_needs, order_legs, sorted_legs
 from .lower_matrix import lower_strategy
+from .lower_numbers import settle
 from .lower_tree import Lowering, free_name, is_set, part, rewrite_texts, set_variable, shown, steps_of, texts
-from .yaml_reader import Map, Mark, Sequence, copied, mark_of, plain_value, read_document, text_of
+from .written import note_written
+from .yaml_reader import MOST_BYTES, Map, Mark, Sequence, copied, mark_of, plain_value, read_document, text_of
 
 STABLE = ("github", "inputs", "vars", "matrix", "needs", "strategy", "runner")  # contexts that no step changes
 MOST_LEVELS = 4  # of workflows, the first caller included
+MOST_NESTED = 10  # composite actions, as on GitHub
 MISSING = {"boolean": "false", "number": "0"}  # the value of an input without one, where it is no text
 
 
-def read_part(lowering: Lowering, name: str, what: str, mark: Mark) -> Any:
-    """The value of a YAML file of the repository, whose lines are those of the place that uses it."""
+class File(NamedTuple):
+    """A file of a workflow: the folder of its repository, its path there, and what it is called."""
+    top: Path
+    path: str
+    name: str
+
+
+def read_part(lowering: Lowering, file: File, what: str, mark: Mark) -> Any:
+    """The value of a YAML file of a repository, whose lines are those of the place that uses it."""
+    name = file.name
     try:
-        document = read_document((lowering.setting.repository / name).read_bytes())
+        document = read_document(read_inside(file.top, file.top / file.path, MOST_BYTES))
     except OSError as fault:
         raise lowering.refuse(mark, f"{what} cannot be read: {name}: {fault.strerror}") from None
     for fault in document.faults:
         raise lowering.refuse(mark, f"{what} has a fault: {name}:{fault.line}: {fault.text}")
-    return copied(document.value, lambda inner: Mark(mark.line, f"{name}:{inner.line}"))
+    for fault in syntax.faults(document) if lowering.setting.strict and "workflow" in what else ():
+        raise lowering.refuse(mark, f"{what} is refused by GitHub: {name}:{fault.line}: {fault.text}")
+    value = copied(document.value, lambda inner: Mark(mark.line, f"{name}:{inner.line}"))
+    settle(value, lowering, [])
+    return value
 
 
 def input_expressions(declared: Any, given: Any) -> Dict[str, str]:
@@ -45,49 +72,124 @@ def input_expressions(declared: Any, given: Any) -> Dict[str, str]:
     return found
 
 
+def whole_of(values: Dict[str, str]) -> str:
+    """The expression of a context with values by their expressions."""
+    names = ",".join(f"{text_of(name)}:{{{at}}}" for at, name in enumerate(values))
+    whole = ", ".join([literal("{{" + names + "}}"), *(f"toJSON({value})" for value in values.values())])
+    return f"fromJSON(format({whole}))"
+
+
 def input_rule(inputs: Dict[str, str]) -> Any:
     """The rule for `inputs`: each by its expression, and as a whole by all of them."""
-    names = ",".join(f"{text_of(name)}:{{{at}}}" for at, name in enumerate(inputs))
-    whole = ", ".join([literal("{{" + names + "}}"), *(f"toJSON({value})" for value in inputs.values())])
-    return known_keys({name: grouped(value) for name, value in inputs.items()}, "null", f"fromJSON(format({whole}))")
+    return known_keys({name: grouped(value) for name, value in inputs.items()}, "null", whole_of(inputs))
 
 
 def inline_actions(lowering: Lowering, job: Any, has_directory: bool) -> None:
-    """Replaces each step of a job that uses a composite action of the repository."""
-    taken = {step["id"] for step in steps_of(job) if isinstance(step.get("id"), str)}
+    """Replaces each step of a job that uses a composite action, and puts the steps of JavaScript actions
+    around those of the job."""
+    around = Around({step["id"] for step in steps_of(job) if isinstance(step.get("id"), str)})
+    around.paths = checkout_paths(lowering, job)
     made = Sequence(mark=mark_of(job, "steps"))
     for at, step in enumerate(job["steps"]):
-        for one in inlined(lowering, step, taken, has_directory, ()):
+        for one in inlined(lowering, step, around, has_directory, ()):
             made.marks[len(made)] = mark_of(job["steps"], at) if one is step else mark_of(one)
             made.append(one)
-    job["steps"] = made
+    job["steps"] = around.put(made)
 
 
-def inlined(lowering: Lowering, step: Any, taken: Set[str], has_directory: bool, above: Tuple[str, ...]) -> List[Any]:
-    """The steps that take the place of a step: itself, unless it uses a composite action of the repository."""
-    uses, mark = step.get("uses") if isinstance(step, dict) else None, mark_of(step, "uses")
-    if not isinstance(uses, str) or not (uses == "." or uses.startswith("./")) or uses.endswith((".yml", ".yaml")):
-        return [step]
-    folder, why = uses[2:].strip("/") or ".", "has no action.yml in the repository"
-    names = [f"{folder}/{name}" for name in ("action.yml", "action.yaml") if (lowering.setting.repository / folder / name).is_file()]
-    if names and ".." not in folder.split("/"):
-        action, why = read_part(lowering, names[0], f"the action {uses}", mark), "is not a composite action"
-        inner = part(action, "runs").get("steps")
-        if part(action, "runs").get("using") == "composite" and isinstance(inner, list) and all(isinstance(one, dict) for one in inner):
-            if uses in above or not isinstance(step.get("env") or {}, dict):
-                return [step]
-            return [one for new in Use(lowering, step, action, folder, taken).steps(has_directory)
-                    for one in inlined(lowering, new, taken, has_directory, above + (uses,))]
+def checkout_paths(lowering: Lowering, job: Any) -> Tuple[str, ...]:
+    """The folders of the workspace in which actions/checkout puts the repository itself, for the steps of a job."""
+    own = part(lowering.contexts, "github").get("repository")
+    given = [part(step, "with") for step in steps_of(job) if action_name(str(step.get("uses"))) == "actions/checkout"]
+    return tuple(posixpath.normpath(one["path"]) for one in given if isinstance(one.get("path"), str) and
+                 not has_expression(one["path"]) and one.get("repository") in (None, "", own, "${{ github.repository }}"))
+
+
+def folder_of(lowering: Lowering, uses: str, paths: Tuple[str, ...]) -> str:
+    """The folder of the repository that a local action names: below a path of actions/checkout what is behind that."""
+    folder = uses[2:].strip("/")
+    behind = [folder[len(path) + 1:] for path in paths if folder.startswith(f"{path}/")]
+    if any(os.path.lexists(lowering.setting.repository / folder / name) for name in FILES) or not behind:
+        return folder
+    return behind[0]
+
+
+def action_of(lowering: Lowering, uses: str, mark: Mark, paths: Tuple[str, ...]) -> Action | None:
+    """The action of a text of `uses`; None where it stays a step with `uses`, which a note says of actions of
+    the repository."""
+    actions = lowering.setting.actions
+    of_repository = uses == "." or uses.startswith("./")
+    source = actions.source(uses) if actions else Source("", Path(uses) if of_repository else None)
+    if source.folder is None or uses.endswith((".yml", ".yaml")):
+        return None
+    name = f"{uses}/"
+    if source.reference is None:
+        folder = folder_of(lowering, uses, paths)
+        top, name = lowering.setting.repository, f"{folder or '.'}/"
+        source = replace(source, folder=top / folder, top=top)
+    try:
+        if ".." in name.split("/"):
+            raise ActionError("has no action.yml in the repository")
+        action = read_action(source, name, mark)
+        settle(action.value, lowering, [])
+        return action
+    except ActionError as fault:
+        why = str(fault)
+        if why.startswith("has no") and source.reference is None:
+            why = "has no action.yml in the repository"
+    if why.startswith("has a fault"):
+        raise lowering.refuse(mark, f"the action {uses} {why}")
     lowering.note(mark, f"the action {uses} {why}: its step needs a program (--stub)")
+    if actions:
+        actions.fails(uses, f"the action {uses} {why}", "no action")
+    return None
+
+
+def inlined(lowering: Lowering, step: Any, around: Around, has_directory: bool,
+            above: Tuple[str, ...]) -> List[Any]:
+    """The steps that take the place of a step: itself, unless it uses a composite or a JavaScript action."""
+    uses, mark = step.get("uses") if isinstance(step, dict) else None, mark_of(step, "uses")
+    around.count_step(lowering, mark)
+    action = action_of(lowering, uses, mark, around.paths) if isinstance(uses, str) else None
+    if action is None:
+        return [step]
+    inner, actions = part(action.value, "runs").get("steps"), lowering.setting.actions
+    has_steps = isinstance(inner, list) and all(isinstance(one, dict) for one in inner)
+    if action.using == "composite" and has_steps:
+        if uses in above or not isinstance(step.get("env") or {}, dict):
+            return [step]
+        if len(above) >= MOST_NESTED:
+            path = " > ".join((*above, uses))
+            raise lowering.refuse(mark, f"composite actions nest deeper than {MOST_NESTED}: {path}")
+        lowering.count(mark, len(inner) + 2)
+        failing = failing_step(lowering, step, action.value) if action.source.reference is None else None
+        if failing:
+            return [failing]
+        return [one for new in Use(lowering, step, action, around).steps(has_directory)
+                for one in inlined(lowering, new, around, has_directory, above + (uses,))]
+    if actions and JAVASCRIPT.fullmatch(action.using):
+        from_start = action.source.reference is not None and not any(one.startswith(".") for one in above)
+        return around.execute(lowering, step, action, from_start)
+    why = "is not a composite action"
+    if action.using == "docker" and actions:
+        if action.source.reference and not actions.lacks_engine:
+            lowering.dockers[uses] = action
+            return [step]
+        why = f"is a Docker action, which needs podman or docker ({actions.lacks_engine}): apt-get install podman"
+    lowering.note(mark, f"the action {uses} {why}: its step needs a program (--stub)")
+    if actions:
+        actions.fails(uses, f"the action {uses} {why}", f"`using: {action.using}`")
     return [step]
 
 
 class Use:
-    """One step that uses a composite action of the repository."""
+    """One step that uses a composite action."""
 
-    def __init__(self, lowering: Lowering, step: Any, action: Any, folder: str, taken: Set[str]):
+    def __init__(self, lowering: Lowering, step: Any, read: Action, around: Around):
+        action, source, taken = read.value, read.source, around.taken
         self.step, self.outputs, self.inner, self.mark = step, part(action, "outputs"), action["runs"]["steps"], mark_of(step, "uses")
         self.outer = condition_expression(step.get("if"))
+        note_written(self.inner, step)
         self.tolerant = step.get("continue-on-error") not in (None, False)
         self.has_id = isinstance(step.get("id"), str)
         # where each step needs no more than the outer condition, no step is added
@@ -96,30 +198,50 @@ class Use:
         base = step["id"] if self.has_id else "action"
         self.ids = [free_name(f"{base}__{one.get('id') or at}", taken) for at, one in enumerate(self.inner)]
         self.begin = free_name(f"{base}__begin", taken)
-        self.began = f"steps.{self.begin}.conclusion == 'success'"
+        self.began = f"steps.{self.begin}.outcome == 'success'"
         self.tolerated = [one.get("continue-on-error") for one in self.inner]
-        self.path = lowering.workspace + ("" if folder == "." else "/" + folder)
+        folder = step["uses"][2:].strip("/")
+        local = lowering.workspace + ("" if folder in ("", ".") else "/" + folder)
+        self.path = source.place if source.reference else local
+        # a step with this variable fails where actions/checkout did not bring the action
+        self.checked = {} if source.reference else {"ACTRUN_NEEDS": self.path}
+        self.more = {"GITHUB_ACTION_PATH": self.path}
+        if source.reference:
+            self.more.update(GITHUB_ACTION_REPOSITORY=f"{source.reference.owner}/{source.reference.name}",
+                             GITHUB_ACTION_REF=source.reference.ref)
         named = {one["id"]: f"steps.{new}" for one, new in zip(self.inner, self.ids) if isinstance(one.get("id"), str)}
+        check_defaults(lowering, self.mark, step["uses"], part(action, "inputs"))
         inputs = input_expressions(part(action, "inputs"), part(step, "with"))
-        self.rules = Rules({"inputs": input_rule(inputs), "steps": known_keys(named), "github": known_keys({"action_path": literal(self.path)})})
+        size = sum(map(len, inputs.values()))
+        around.count_text(lowering, self.mark, text_of([self.inner, self.outputs]), size)
+        of_action = {name[len("GITHUB_"):].lower(): literal(value) for name, value in self.more.items()}
+        self.rules = Rules({"inputs": input_rule(inputs), "steps": known_keys(named),
+                            "github": known_keys(of_action), "secrets": self.no_secrets})
+        self.lowering = lowering
         # a condition reads no secrets, so an input with one comes by a variable
         self.secret = {"INPUT_" + name.upper().replace(" ", "_"): (name, value) for name, value in inputs.items()
                        if any(it.context == "secrets" or it.keys[:1] == ("token",) for it in references(value)[0])}
         shown_inputs = {**inputs, **{name: f"env['{variable}']" for variable, (name, _) in self.secret.items()}}
         self.condition_rules = Rules({**self.rules.contexts, "inputs": input_rule(shown_inputs)})
-        lowering.note(self.mark, f"the composite action {step['uses']} is inlined: {len(self.inner)} steps take its place")
+        what = f"{step['uses']} ({source.says})" if source.reference else step["uses"]
+        lowering.note(self.mark, f"the composite action {what} is inlined: {len(self.inner)} steps take its place")
 
     def steps(self, has_directory: bool) -> List[Any]:
         """The steps of the action as steps of the job, between one that opens and one that closes the action where they are needed."""
         title = str(self.step.get("name") or self.step["uses"])
         shared = {"shell": "bash", **({"continue-on-error": self.step["continue-on-error"]} if self.tolerant else {})}
         outer = {} if self.outer is None else {"if": self.outer}
-        made = [Map({"id": self.begin, "name": title, "run": ":\n", **shared, **outer}, self.mark)] if self.gated else []
+        made = [Map({"id": self.begin, "name": title, "run": ":\n", "env": {**self.checked}, **shared, **outer}, self.mark)] if self.gated else []
         made += [self.adopted(at, has_directory) for at in range(len(self.inner))]
         made += [self.closing({"id": self.step["id"], "name": f"outputs of {title}", **shared})] if self.has_id else []
         for one in made:
-            one.known_as = self.step.known_as
+            one.known_as, one.user = self.step.known_as, self.step
         return made
+
+    def no_secrets(self, _: Any) -> Any:
+        """The rule for secrets in an action, which GitHub gives none."""
+        raise self.lowering.refuse(self.mark, f"the action {self.step['uses']} reads `secrets`, which no "
+                                              "action can: hand it what it needs by `with`")
 
     def failed(self, before: int) -> str:
         """The expression that holds where a step of the action before a place has failed."""
@@ -140,7 +262,7 @@ class Use:
             step["id"] = self.ids[at]
         if isinstance(step.get("env") or {}, dict):
             secret = {variable: "${{ " + value + " }}" for variable, (_, value) in self.secret.items() if f"'{variable}'" in (own or "")}
-            step["env"] = {**part(self.step, "env"), **part(step, "env"), **secret, "GITHUB_ACTION_PATH": self.path}
+            step["env"] = {**part(self.step, "env"), **part(step, "env"), **secret, **self.more, **({} if self.gated else self.checked)}
         for key in ("timeout-minutes", "continue-on-error"):
             if is_set(self.step.get(key)) and (key == "continue-on-error" or not is_set(step.get(key))):
                 step[key] = self.step[key]
@@ -150,17 +272,30 @@ class Use:
 
     def closing(self, parts: Dict[str, Any]) -> Any:
         """A step that has the id, the outputs and the outcome of the outer step."""
-        made = Map({**parts, "if": f"always() && {self.began}", "run": ""}, self.mark)
+        made = Map({**parts, "if": f"always() && steps.{self.begin}.outcome != 'skipped'", "run": ""}, self.mark)
         for at, name in enumerate(self.outputs):
             set_variable(made, f"ACTRUN_OUTPUT_{at}", rewrite_template(str(part(self.outputs, name).get("value") or ""), self.rules))
             made["run"] += f"printf '%s<<ACTRUN_END\\n%s\\nACTRUN_END\\n' {shlex.quote(name)} \"$ACTRUN_OUTPUT_{at}\" >> \"$GITHUB_OUTPUT\"\n"
-        set_variable(made, "ACTRUN_FAILED", "${{ " + self.failed(len(self.inner)) + " }}")
+        set_variable(made, "ACTRUN_FAILED", f"${{{{ steps.{self.begin}.outcome == 'failure' || {self.failed(len(self.inner))} }}}}")
         made["run"] += '[ "$ACTRUN_FAILED" != true ]\n'
         return made
 
 
-def inline_calls(lowering: Lowering, flow: Any, above: Tuple[str, ...] = ()) -> None:
+def called_file(lowering: Lowering, uses: str, above: Tuple[File, ...]) -> File | None:
+    """The file of a called workflow; None where there is none. `./` begins at the repository of the caller."""
+    if uses.startswith("./"):
+        path, top = uses[2:], above[-1].top if above else lowering.setting.repository
+        name = above[-1].name.replace(above[-1].path, path) if above else path
+        return File(top, path, name) if ".." not in path.split("/") and (top / path).is_file() else None
+    source = lowering.setting.actions.source(uses) if lowering.setting.actions else Source("")
+    if source.folder is None or source.reference is None or not source.folder.is_file():
+        return None
+    return File(source.top, source.reference.path, uses)
+
+
+def inline_calls(lowering: Lowering, flow: Any, above: Tuple[File, ...] = ()) -> None:
     """Puts the jobs of called workflows in place of the calls. `above` are the workflows that lead to this one."""
+    match_needs(flow["jobs"])
     jobs, taken = flow["jobs"], set(flow["jobs"])
     calls = {job_id: job["uses"] for job_id, job in jobs.items() if isinstance(part(jobs, job_id).get("uses"), str)}
     if not calls and not above:
@@ -169,11 +304,11 @@ def inline_calls(lowering: Lowering, flow: Any, above: Tuple[str, ...] = ()) -> 
     flow["jobs"] = Map(mark=jobs.mark)
     flow["jobs"].marks = dict(jobs.marks)
     for job_id, job in jobs.items():
-        path = calls[job_id][2:] if calls.get(job_id, "").startswith("./") else ""
+        file = called_file(lowering, calls[job_id], above) if job_id in calls else None
         if job_id not in calls:
             flow["jobs"][job_id] = job
-        elif path and ".." not in path.split("/") and (lowering.setting.repository / path).is_file():
-            made = called(lowering, job_id, job, path, above, taken)
+        elif file:
+            made = called(lowering, job_id, job, file, above, taken)
             flow["jobs"].update(made)
             flow["jobs"].marks.update(dict.fromkeys(made, mark_of(jobs, job_id)))
         else:
@@ -201,10 +336,13 @@ def inherited(outer: Any, inner: Any) -> Any:
 
 
 def distant(lowering: Lowering, job_id: str, job: Any, jobs: Any) -> Any:
-    """The job with one step that stands for a workflow of another repository, and with the outputs that others read of it."""
+    """The job with one step that replaces a workflow of another repository, and with the outputs that others read of it."""
     mark = mark_of(job, "uses")
     where = "is not in this repository" if job["uses"].startswith("./") else "belongs to another repository"
-    lowering.note(mark, f"the called workflow {shown(job['uses'])} {where}: one step with `uses` takes its place and needs a program (--stub)")
+    source = lowering.setting.actions.source(job["uses"]) if lowering.setting.actions else Source("")
+    where += f" ({source.says})" if source.says else ""
+    ends = "" if source.says.startswith("fetched") else " and needs a program (--stub)"
+    lowering.note(mark, f"the called workflow {shown(job['uses'])} {where}: one step with `uses` takes its place{ends}")
     read = re.findall(rf"needs\s*\.\s*{re.escape(job_id)}\s*\.\s*outputs\s*\.\s*([A-Za-z_][A-Za-z0-9_-]*)", text_of(jobs))
     made = Map({key: value for key, value in job.items() if key in ("name", "needs", "if", "strategy")}, job.mark)
     made.marks = dict(job.marks)
@@ -213,26 +351,32 @@ def distant(lowering: Lowering, job_id: str, job: Any, jobs: Any) -> Any:
     return made
 
 
-def called(lowering: Lowering, job_id: str, job: Any, path: str, above: Tuple[str, ...], taken: Set[str]) -> Dict[str, Any]:
+def called(lowering: Lowering, job_id: str, job: Any, file: File, above: Tuple[File, ...],
+           taken: Set[str]) -> Dict[str, Any]:
     """The jobs that take the place of a call, for each combination of its matrix. The last has the caller's id, its outputs and its result."""
+    path = file.name
     made: Dict[str, Any] = {}
     outputs: Dict[str, List[str]] = {}
     ids: List[str] = []
-    mark, title = mark_of(job, "uses"), str(job.get("name") or job_id)
-    lower_strategy(lowering, job_id, job)
+    mark, title, path = mark_of(job, "uses"), str(job.get("name") or job_id), file.name
+    lower_strategy(lowering, job_id, job, not above)
+    if "steps" in job:  # (its strategy has no value)
+        del job["uses"]
+        return {job_id: job}
+    names = order_legs(lowering, job)
     matrix = part(job, "strategy").get("matrix")
     if matrix:
         lowering.note(mark_of(job, "strategy"), f"the matrix of job {job_id} calls {path} once for each combination, side by side: "
                                                 "fail-fast and max-parallel do not hold between the calls")
     try:
-        legs = lowering.combinations(matrix) if matrix else [{}]
+        legs = sorted_legs(lowering.combinations(matrix), names) if matrix else [{}]
     except EvaluationError as fault:
         raise lowering.refuse(mark_of(job, "strategy"), f"the matrix of job {job_id} has no combinations: {fault}") from None
     for at, leg in enumerate(legs):
         one = copied(job)
         one["name"] = f"{title} ({', '.join(shown(value) for value in leg.values())})" if leg else title
         rewrite_texts(one, Rules({"matrix": known_keys({key: literal(value) for key, value in leg.items()}, "null", literal(leg))} if leg else {}))
-        call = Call(lowering, job_id, one, path, above, taken, f"_{at + 1}" if len(legs) > 1 else "")
+        call = Call(lowering, job_id, one, file, above, taken, f"_{at + 1}" if len(legs) > 1 else "")
         made.update(call.jobs())
         ids += call.ids.values()
         rules, declared = Rules({**call.rules.contexts, "jobs": call.rules.contexts["needs"]}), part(call.declared, "outputs")
@@ -244,24 +388,29 @@ def called(lowering: Lowering, job_id: str, job: Any, path: str, above: Tuple[st
     made[job_id] = Map({"name": title, "needs": ids, "steps": Sequence([step], mark),
                         "if": "!cancelled() && (" + " || ".join(f"needs.{name}.result != 'skipped'" for name in ids) + ")",
                         "outputs": {name: "${{ " + " || ".join(parts) + " }}" for name, parts in outputs.items()}}, mark)
+    made[job_id].user = job
     return made
 
 
 class Call:
-    """One call of a workflow of the repository by a job without a matrix."""
+    """One call of a workflow by a job without a matrix."""
 
-    def __init__(self, lowering: Lowering, job_id: str, job: Any, path: str, above: Tuple[str, ...], taken: Set[str], suffix: str):
-        self.lowering, self.id, self.job, self.path, self.mark = lowering, job_id, job, path, mark_of(job, "uses")
+    def __init__(self, lowering: Lowering, job_id: str, job: Any, file: File, above: Tuple[File, ...], taken: Set[str],
+                 suffix: str):
+        self.lowering, self.id, self.job, self.mark = lowering, job_id, job, mark_of(job, "uses")
+        self.path = path = file.name
         if len(above) + 2 > MOST_LEVELS:
-            raise lowering.refuse(self.mark, f"called workflows nest deeper than {MOST_LEVELS} levels here: {' > '.join((*above, path))}")
-        flow = read_part(lowering, path, "the called workflow", self.mark)
+            names = " > ".join([*(one.name for one in above), path])
+            raise lowering.refuse(self.mark, f"called workflows nest deeper than {MOST_LEVELS} levels here: {names}")
+        flow = read_part(lowering, file, "the called workflow", self.mark)
         if not part(flow, "jobs"):
             raise lowering.refuse(self.mark, f"the called workflow {path} has no jobs")
         if "workflow_call" not in [*texts(flow.get("on")), *part(flow, "on")]:
             raise lowering.refuse(self.mark, f"the called workflow {path} cannot be called: write `workflow_call` under its `on`")
         if is_set(flow.get("concurrency")):
             lowering.note(mark_of(flow, "concurrency"), "concurrency of a called workflow is dropped")
-        inline_calls(lowering, flow, (*above, path))
+        lowering.count(self.mark, len(flow["jobs"]))
+        inline_calls(lowering, flow, (*above, file))
         self.inner = flow["jobs"]
         self.ids = {old: free_name(f"{job_id}__{old}{suffix}", taken) for old in self.inner}
         self.needs, self.condition = texts(job.get("needs")), condition_expression(job.get("if"))
@@ -274,7 +423,8 @@ class Call:
         self.rules = Rules({"inputs": input_rule(inputs), "needs": known_keys({old: f"needs.{new}" for old, new in self.ids.items()})})
         if job.get("secrets") != "inherit":
             secrets["github_token"] = "secrets.GITHUB_TOKEN"
-            self.rules.contexts["secrets"] = known_keys({name: grouped(value) for name, value in secrets.items()}, "''")
+            self.rules.contexts["secrets"] = known_keys({name: grouped(value) for name, value in secrets.items()},
+                                                        "''", whole_of(secrets))
 
     def inputs(self) -> Dict[str, str]:
         """The expression of each input that is declared."""
@@ -294,6 +444,7 @@ class Call:
         made = {}
         if self.gate:
             made[self.gate] = gate = Map({"name": f"{self.job['name']} (condition)", "needs": self.needs, "steps": Sequence()}, self.mark)
+            gate.user = self.job
             if self.condition is not None:
                 gate["if"], gate.marks["if"] = self.condition, mark_of(self.job, "if")
         for old, job in self.inner.items():
@@ -304,6 +455,8 @@ class Call:
 
     def adopt(self, old: str, job: Any) -> None:
         """Makes a job of the called workflow one of the caller's."""
+        note_written([job], self.job)
+        job.inside = old
         for node in [job, *steps_of(job)]:
             rewrite_texts(node, self.rules)
         job["name"], job.known_as = f"{self.job['name']} / {job.get('name') or old}", job.known_as or old

@@ -1,4 +1,4 @@
-"""Stands for actions/upload-artifact and download-artifact: artifacts are folders of files below ACTRUN_ARTIFACTS."""
+"""Replaces actions/upload-artifact and download-artifact: artifacts are folders of files below ACTRUN_ARTIFACTS."""
 
 from __future__ import annotations
 

@@ -1,4 +1,4 @@
-"""Stands for actions/cache, actions/cache/restore and actions/cache/save: caches are kept in the folder ACTRUN_CACHE.
+"""Replaces actions/cache, actions/cache/restore and actions/cache/save: caches are kept in the folder ACTRUN_CACHE.
 
 A cache is a folder named by the digest of its key and paths, with `entry.json` (key, paths) and an archive for each folder that
 its files start from (the repository, the home folder, the root). It is made beside its place and moved there whole, so that two
@@ -13,10 +13,12 @@ import json
 import os
 import pathlib
 import shutil
+import stat
 import subprocess
 import tarfile
 import tempfile
 import time
+from typing import Any, Callable
 
 import globs
 import step
@@ -27,14 +29,32 @@ MOST_BYTES = 10 * 1024 ** 3  # of all caches of a repository, as on GitHub
 
 def newest_first(cache: pathlib.Path) -> list[pathlib.Path]:
     """All caches, the newest first."""
-    return [place.parent for place in sorted(cache.glob("*/entry.json"), key=os.path.getmtime, reverse=True)]
+    made = [place for place in cache.glob("*/entry.json") if not place.parent.name.startswith(".")]
+    return [place.parent for place in sorted(made, key=os.path.getmtime, reverse=True)]
+
+
+def read_json(place: pathlib.Path) -> Any:
+    """The value of a file that a step may have written: a plain file of at most 1 MiB; None of anything else."""
+    try:
+        number = os.open(place, os.O_RDONLY | os.O_NOFOLLOW | os.O_NONBLOCK)
+        with open(number, "rb") as file:
+            return json.loads(file.read(1 << 20)) if stat.S_ISREG(os.fstat(number).st_mode) else None
+    except (OSError, ValueError, RecursionError):
+        return None
+
+
+def read_entry(place: pathlib.Path) -> tuple[str, list[str]] | None:
+    """The key and the paths of a cache."""
+    entry = read_json(place / "entry.json")
+    known = isinstance(entry, dict) and isinstance(entry.get("key"), str) and isinstance(entry.get("paths"), list)
+    return (entry["key"], entry["paths"]) if known else None
 
 
 def find(key: str, paths: list[str]) -> tuple[str, pathlib.Path] | None:
     """The key and folder of the cache with that key, else of the newest whose key begins with the first of restore-keys that any begins with."""
-    entries = [(json.loads((place / "entry.json").read_text(encoding="utf-8")), place) for place in newest_first(step.folder("ACTRUN_CACHE"))]
+    entries = [(entry, place) for place in newest_first(step.folder("ACTRUN_CACHE")) for entry in [read_entry(place)] if entry]
     tests = [key.__eq__, *(lambda name, start=start: name.startswith(start) for start in [key, *step.given_lines("restore-keys")])]
-    there = ((entry["key"], place) for test in tests for entry, place in entries if entry["paths"] == paths and test(entry["key"]))
+    there = ((entry[0], place) for test in tests for entry, place in entries if entry[1] == paths and test(entry[0]))
     return next(there, None)
 
 
@@ -76,9 +96,13 @@ def save(key: str, paths: list[str]) -> None:
     if not found:
         return step.warn(f"the cache {key} is not saved: nothing matches its path {', '.join(paths)}")
     new = pathlib.Path(tempfile.mkdtemp(dir=cache, prefix=".new-"))
-    for path in found:
-        pack(new, path, (cache, pathlib.Path.home().resolve() / ".cache/actrun"))
-    (new / "entry.json").write_text(json.dumps({"key": key, "paths": paths}), encoding="utf-8")
+    try:
+        for path in found:
+            pack(new, path, (cache, pathlib.Path.home().resolve() / ".cache/actrun"))
+        (new / "entry.json").write_text(json.dumps({"key": key, "paths": paths}), encoding="utf-8")
+    except OSError:
+        shutil.rmtree(new)
+        raise
     try:
         new.rename(final)
     except OSError:
@@ -128,18 +152,34 @@ def after(record: str) -> None:
         with open(record, "rb") as text:
             board = subprocess.run([os.environ["ACTRUN_PROGRAM"], "table"], stdin=text, capture_output=True, text=True, check=False).stdout
     for place in requests:
-        leg, key, paths, os.environ["GITHUB_WORKSPACE"] = json.loads(place.read_text(encoding="utf-8"))
-        if f"leg {leg} ended success" in board.splitlines():
-            save(key, paths)
-        else:
-            print(f"the cache {key} is not saved: leg {leg} did not succeed")
-        place.unlink()
+        carry_out(place, lambda leg: f"leg {leg} ended success" in board.splitlines())
 
 
-def main(text: str, record: str = "") -> None:
+def after_leg(leg: str, result: str) -> None:
+    """Saves the caches that one leg asked for, if it ended with success."""
+    for place in sorted(step.folder("RUNNER_TEMP").rglob(f"cache-request-{leg}-*.json")):
+        carry_out(place, lambda _: result == "success")
+
+
+def carry_out(place: pathlib.Path, succeeded: Callable[[str], bool]) -> None:
+    """Saves the cache of one request, if its leg succeeded."""
+    request = read_json(place)
+    if not (isinstance(request, list) and len(request) == 4 and isinstance(request[2], list) and isinstance(request[3], str)):
+        return
+    leg, key, paths, os.environ["GITHUB_WORKSPACE"] = request
+    if succeeded(leg):
+        save(key, paths)
+    else:
+        print(f"the cache {key} is not saved: leg {leg} did not succeed")
+    place.unlink()
+
+
+def main(text: str, of: str = "", result: str = "") -> None:
     """Restores or saves, by the action's name."""
     if text == "--after":
-        return after(record)
+        return after(of)
+    if text == "--after-leg":
+        return after_leg(of, result)
     name, key = step.split_action(text)[0], step.given("key")
     paths = [line.replace(f"{step.folder()}/", "") for line in step.given_lines("path")]
     if not key or not paths:

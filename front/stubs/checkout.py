@@ -1,4 +1,4 @@
-"""Stands for actions/checkout: the tree is there already, as a copy of the working tree or the tree itself."""
+"""Replaces actions/checkout: it fills the empty workspace; with `--workspace full` or `--in-place` the tree is there already."""
 
 from __future__ import annotations
 
@@ -7,6 +7,7 @@ import pathlib
 import shutil
 import subprocess
 
+import checkout_clone
 import step
 
 PROGRAM = "name a program for this step with --stub actions/checkout=PROGRAM"
@@ -19,7 +20,7 @@ def known_to_git(*words: str) -> str:
 
 
 def commit_of(name: str) -> str:
-    """The commit that a name stands for in the tree, or nothing."""
+    """The commit that a name means in the tree, or nothing."""
     return known_to_git("rev-parse", "--verify", "--quiet", "--end-of-options", f"{name}^{{commit}}")
 
 
@@ -56,10 +57,14 @@ def check_folder(path: str, repository: str, fillable: bool) -> None:
 
 
 def main(_: str) -> None:
-    """Checks that the tree serves for what the step asks, and says what commit it has."""
-    repository, ref, commit = step.given("repository"), step.given("ref"), commit_of("HEAD") or os.environ.get("GITHUB_SHA", "")
+    """Fills the workspace, or checks that the tree serves for what the step asks, and says what commit it has."""
+    repository, ref = step.given("repository"), step.given("ref")
     if repository.lower() == os.environ.get("GITHUB_REPOSITORY", "").lower():
         repository = ""
+    if os.environ.get("ACTRUN_SOURCE"):
+        checkout_clone.main(repository, PROGRAM)
+        return
+    commit = commit_of("HEAD") or os.environ.get("GITHUB_SHA", "")
     names = ("", os.environ.get("GITHUB_REF"), os.environ.get("GITHUB_REF_NAME"), commit)
     same = ref in names or commit_of(ref) == commit != ""
     check_folder(step.given("path", "."), repository, same and not repository)

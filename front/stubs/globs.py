@@ -12,6 +12,11 @@ import re
 from dataclasses import dataclass
 from typing import Iterator
 
+try:
+    from stubs.automaton import Test, wildcard_match
+except ImportError:  # (a stub starts as a program)
+    from automaton import Test, wildcard_match
+
 PART = re.compile(r"\\(?P<escaped>.)|(?P<star>\*)|(?P<any>\?)|\[(?P<set>.[^\]]*)\]|(?P<char>.)", re.DOTALL)
 
 
@@ -24,33 +29,60 @@ class Pattern:
     folders_only: bool = False
 
     @functools.cached_property
-    def regex(self) -> re.Pattern[str]:
-        """The regular expression of what matches, after a `/`, with what is below it. A last `**` takes in a file of that name too."""
-        whole = "".join("(?:/[^/]+)*" if segment == "**" else "/" + translated(segment)[0] for segment in self.segments)
-        return re.compile(whole + ("/.+" if self.folders_only else "(?:/.*)?"), re.DOTALL)
+    def whole(self) -> tuple[str, ...]:
+        """The segments with what is below a match. A last `**` takes in a file of that name too."""
+        return (*self.segments, *(["*"] if self.folders_only else []), "**")
 
     def matches(self, path: tuple[str, ...]) -> bool:
-        """Whether a file matches, or a folder that it is in."""
-        return self.regex.fullmatch("/" + "/".join(path)) is not None
+        """Whether a file matches, or a folder that it is in. As of the stars in a name, only the last `**` has to be tried again."""
+        whole, at, place, star, mark = self.whole, 0, 0, -1, 0
+        while at < len(path):
+            if place < len(whole) and whole[place] == "**":
+                star, mark = place, at
+                place += 1
+            elif place < len(whole) and fits(whole[place], path[at]):
+                at, place = at + 1, place + 1
+            elif star >= 0:
+                mark += 1
+                at, place = mark, star + 1
+            else:
+                return False
+        return all(segment == "**" for segment in whole[place:])
+
+
+@functools.lru_cache(maxsize=1 << 16)
+def fits(segment: str, name: str) -> bool:
+    """Whether a name fits a segment."""
+    literal, tests = translated(segment)[1], translated(segment)[0]
+    return name == literal if literal is not None else segment == "*" or wildcard_match(list(tests), name)
+
+
+def any_character(_: str) -> bool:
+    """The test that each character passes."""
+    return True
 
 
 @functools.lru_cache(maxsize=None)
-def translated(segment: str) -> tuple[str, str | None]:
-    """The regular expression of a segment, and the name that it stands for, or None where it is a pattern."""
-    regex, names = "", []
+def translated(segment: str) -> tuple[tuple[Test | None, ...], str | None]:
+    """The tests of a segment's characters, and the name that it means, or None if it is a pattern."""
+    tests: list[Test | None] = []
+    names: list[str | None] = []
     for part in PART.finditer(segment):
         inner, char = part["set"] or "", part["escaped"] or part["char"]
         names.append(char or (inner if len(inner) == 1 else None))
         if names[-1]:
-            regex += re.escape(names[-1])
-        else:
+            tests.append(names[-1].__eq__)
+        elif inner:
             of_set = "^" * (inner[:1] in ("!", "^")) + re.sub(r"([\\\[&~|])", r"\\\1", re.sub(r"^[!^]", "", inner))
-            regex += f"(?!/)[{of_set}]" if inner else "[^/]*" if part["star"] else "[^/]"
-    try:
-        re.compile(regex)
-    except re.error:  # a range as `[z-a]` stands for itself
-        return re.escape(segment), segment
-    return regex, None if None in names else "".join(names)
+            try:
+                tests.append(re.compile(f"[{of_set}]", re.DOTALL).fullmatch)  # type: ignore[arg-type]
+            except re.error:  # a range as `[z-a]` means itself
+                return (), segment
+        elif not part["star"]:
+            tests.append(any_character)
+        elif not tests or tests[-1] is not None:
+            tests.append(None)
+    return tuple(tests), None if None in names else "".join(filter(None, names))
 
 
 def starts(patterns: list[Pattern]) -> list[tuple[str, ...]]:

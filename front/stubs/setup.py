@@ -1,17 +1,19 @@
-"""Stands for actions that install a tool: the tool is looked for on this machine, and its version compared.
+"""Replaces actions that install a tool: it is looked for in PATH, tool caches and packages.
 
-`actions.json` has an entry for each action with its `tools`. Of a tool: `programs`, the names of the program; `asked`, the inputs
-with the version (NAME-version or version if none is named; `@` is the action's ref); `files`, version files or inputs that name one;
-`names`, more programs to look for by the version that is asked for; `version`, the arguments that print its version; `links`, names
-under which later steps shall find a Python that makes a virtual environment, and arguments; `outputs` (NAME-version if none is
-named) and `variables`, by {version}, {path} and the like; `optional`, true where it is looked for only if a version is asked for.
+A version that is not there fails the step, which lists the installed versions; with --lenient another version serves.
+
+`actions.json` has an entry for each action with its `tools`. Of a tool: `programs`, the names of the program;
+`asked`, the inputs with the version (NAME-version or version if none is named; `@` is the action's ref);
+`files`, version files or inputs that name one; `names`, more programs to look for by the version that is
+asked for; `version`, the arguments that print its version; `links`, names under which later steps shall find
+a Python that makes a virtual environment, and arguments; `outputs` (NAME-version if none is named) and
+`variables`, by {version}, {path} and the like; `optional`, true where it is looked for only if a version is
+asked for.
 """
 
 from __future__ import annotations
 
-import glob
 import json
-import operator
 import os
 import pathlib
 import re
@@ -20,57 +22,26 @@ import shutil
 import subprocess
 
 import step
+import versions
 
-COMPARISONS = {">=": operator.ge, "<=": operator.le, ">": operator.gt, "<": operator.lt, "!=": operator.ne}
 # how a version file is read, by its name
 FORMS = {"go.mod": r"^go\s+(\S+)", "go.work": r"^go\s+(\S+)", "pyproject.toml": r"^requires-python\s*=\s*[\"'](.+?)[\"']",
          "package.json": r'"engines"\s*:\s*\{[^}]*"node"\s*:\s*"([^"]+)"', ".tool-versions": r"^NAME(?:js|lang)?\s+(\S+)"}
 
 
-def fits_one(asked: str, version: str) -> bool:
-    """Whether a version is one that `asked` names: `3`, `3.10`, `3.x`, `v18`, `^1.13`, `~1.5`, `>=3.9`, or a name without digits."""
-    match = re.fullmatch(r"([<>]=?|!=|==?|\^|~>?)?v?(\d+(?:\.\d+)*)(?:\.[xX*].*|[-+].*)?", asked)
-    if match is None:
-        return not re.search(r"\d", asked)
-    sign, parts, have = match[1], [int(part) for part in match[2].split(".")], [int(part) for part in version.split(".")]
-    if sign in COMPARISONS:
-        return COMPARISONS[sign](have[:len(parts)], parts)
-    fixed = min(len(parts), {"^": 1, "~": 2, "~>": max(len(parts) - 1, 1)}.get(sign, len(parts)))
-    return have[:fixed] == parts[:fixed] and have >= parts
-
-
-def fits(asked: str, version: str) -> bool:
-    """Whether a version is what a version input asks for: one of several lines or ways between `||`."""
-    spans = re.sub(r"(\S+) +- +(\S+)", r">=\1 <=\2", asked)
-    ways = [re.split(r"[\s,]+", way.strip()) for way in re.split(r"\|\||\n", re.sub(r"([<>=!~^])\s+", r"\1", spans)) if way.strip()]
-    return any(all(fits_one(part, version or "0") for part in way) for way in ways)
-
-
-def find(names: list[str], words: str) -> list[tuple[str, str]]:
-    """The programs of these names or patterns that can be started, each with the version that it prints."""
-    found, places = [], [place for name in names for place in (sorted(glob.glob(name)) if "/" in name else [shutil.which(name)])]
-    for place in filter(None, dict.fromkeys(places)):
-        try:
-            done = subprocess.run([place, *shlex.split(words)], capture_output=True, text=True, errors="replace", timeout=60, check=True)
-        except (OSError, subprocess.SubprocessError):
-            continue
-        number = re.search(r"\d+(\.\d+)*", done.stdout + done.stderr)
-        found.append((place, number[0] if number else ""))
-    return found
-
-
 def asked_for(tool: dict, name: str, ref: str) -> str:
-    """The version that the step asks for by an input, by the action's ref or by a version file; nothing if by none."""
+    """The version that the step asks for by an input, by the action's ref or by a version file; nothing if by
+    none."""
     ref = re.sub(r"^([0-9a-f]{40}|master|main|v\d+)$", "", ref)
-    versions = [ref if it == "@" else step.given(it) for it in tool.get("asked", f"{name}-version version").split()]
+    found = [ref if it == "@" else step.given(it) for it in tool.get("asked", f"{name}-version version").split()]
     for it in tool.get("files", "").split():
         place = step.folder() / (it if "." in it else step.given(it))
-        if "." not in it and step.given(it) and not any(versions) and not place.is_file():
+        if "." not in it and step.given(it) and not any(found) and not place.is_file():
             step.fail(f"the file {step.given(it)} of the input {it} is not in the tree")
         if place.is_file():
             form = FORMS.get(place.name, r"^\s*(?:go)?([^\s#]\S*)").replace("NAME", name)
-            versions += re.findall(form, place.read_text(encoding="utf-8", errors="replace"), re.MULTILINE)[:1]
-    return next(filter(None, versions), "").removeprefix("ruby-")
+            found += re.findall(form, place.read_text(encoding="utf-8", errors="replace"), re.MULTILINE)[:1]
+    return next(filter(None, found), "").removeprefix("ruby-")
 
 
 def named(forms: str, version: str) -> list[str]:
@@ -80,7 +51,8 @@ def named(forms: str, version: str) -> list[str]:
 
 
 def put_in_front(tool: dict, name: str, path: str, version: str) -> str:
-    """Makes later steps find the program by its usual names, a Python in an environment of the leg. Returns its path there."""
+    """Makes later steps find the program by its usual names, a Python in an environment of the leg. Returns
+    its path there."""
     folder, scripts = step.folder("RUNNER_TEMP") / f"actrun-{name}-{version or 'any'}-{step.numbers()[0]}", tool.get("links", {name: ""})
     if "links" in tool and not folder.exists():
         subprocess.run([path, "-m", "venv", "--system-site-packages", "--without-pip", str(folder)], capture_output=True, check=False)
@@ -98,25 +70,61 @@ def put_in_front(tool: dict, name: str, path: str, version: str) -> str:
             place.chmod(0o755)
     with open(os.environ["GITHUB_PATH"], "a", encoding="utf-8") as paths:
         paths.write(f"{folder}\n")
+    os.environ["PATH"] = f"{folder}:{os.environ.get('PATH', os.defpath)}"  # (for the next tool of the action)
     return path
 
 
-def set_up(tool: dict, text: str) -> None:
-    """Finds the tool, says which version is there, and sets the outputs; fails where it is missing."""
-    programs, (action, ref) = tool["programs"].split(), step.split_action(text)
-    name, asked = programs[0], asked_for(tool, programs[0], ref)
-    if "optional" in tool and not asked:
-        return
+def there(tool: dict, asked: str) -> list[tuple[str, str]]:
+    """The programs of a tool that can be started, those of PATH first, each with its version."""
+    names, name = tool["programs"].split(), tool["programs"].split()[0]
     more = [it for number in re.findall(r"[\d.]+", asked) for it in named(tool.get("names", ""), number)]
-    found = find(programs + more, tool.get("version", "--version"))
+    places = versions.in_path(names + [it for it in more if "/" not in it]) + versions.kept(name)
+    found = versions.started(places, tool.get("version", "--version"))
+    return [(path, of_java(version) if name == "java" else version) for path, version in found]
+
+
+def of_java(version: str) -> str:
+    """A version of Java without the `1.` that those up to 8 have."""
+    return re.sub(r"^1\.(?=\d)", "", version)
+
+
+def choose(found: list[tuple[str, str]], asked: str) -> tuple[str, str] | None:
+    """The program of the newest version that fits; where none is asked for, the first of all."""
+    fitting = [one for one in found if versions.fits(asked, one[1])] if asked else found[:1]
+    return max(fitting, key=lambda one: versions.numbers(one[1])) if fitting else None
+
+
+def missing(tool: dict, action: str, found: list[tuple[str, str]], asked: str,
+            lenient: bool) -> tuple[str, str]:
+    """Fails, as no program of the tool has the version that is asked for. With --lenient goes on with another
+    one."""
+    names = tool["programs"].split()
+    name, get = names[0], versions.how_to_get(names[0], asked)
+    has = ", ".join(f"{version or 'no version'} ({path})" for path, version in found)
     if not found:
-        step.fail(f"{action}: there is no program {' or '.join(programs)} in PATH that can be started. "
-                  f"Install it outside of home folders, which the sandbox hides, or name a program with --stub {action}=PROGRAM")
-    path, version = next((one for one in found if fits(asked, one[1])), found[0])
-    print(f"{name} {version} ({path})", flush=True)
-    if asked and not fits(asked, version):
-        step.warn(f"{name} {asked} is asked for, and {version or 'another version'} is what is there")
-    path = put_in_front(tool, name, path, version)
+        step.fail(f"{action}: there is no program {' or '.join(names)} that can be started: {get}; "
+                  f"or name a program with --stub {action}=PROGRAM")
+    if not lenient:
+        step.fail(f"{action}: {name} {asked} was requested; this machine has {has}. To get it: {get}. "
+                  "To go on with another version: --lenient")
+    step.warn(f"{name} {asked} was requested; using {found[0][1] or 'another version'}, the installed version")
+    step.mark_another(f"{name} {found[0][1]} in place of {asked}")
+    return found[0]
+
+
+def set_up(tool: dict, text: str, lenient: bool) -> None:
+    """Finds the tool, says which version is there, and sets the outputs; fails where it is missing."""
+    action, ref = step.split_action(text)
+    name, whole = tool["programs"].split()[0], asked_for(tool, tool["programs"].split()[0], ref)
+    if "optional" in tool and not whole:
+        return
+    # several lines ask for several versions
+    for asked in [line.strip() for line in whole.splitlines() if line.strip()] or [""]:
+        asked = of_java(asked) if name == "java" else asked
+        found = there(tool, asked)
+        path, version = choose(found, asked) or missing(tool, action, found, asked, lenient)
+        print(f"{name} {version} ({path})", flush=True)
+        path = put_in_front(tool, name, path, version)
     folder = os.path.dirname(path if "links" in tool else os.path.realpath(path))
     values = {"version": version, "path": path, "folder": folder, "home": os.path.dirname(folder), "distribution": step.given("distribution")}
     for variable, forms in (("GITHUB_OUTPUT", tool.get("outputs", f"{name}-version={{version}}")),
@@ -125,14 +133,14 @@ def set_up(tool: dict, text: str) -> None:
             step.set_output(it.partition("=")[0], it.partition("=")[2].format(**values), variable)
 
 
-def main(text: str) -> None:
+def main(text: str, lenient: str = "") -> None:
     """Sets up all tools of the action."""
     table, action = json.loads((pathlib.Path(__file__).parent / "actions.json").read_text(encoding="utf-8")), step.split_action(text)[0]
     entry = next(value for name, value in table.items() if name.lower() == action)
     if "says" in entry:
         print(f"{action} {entry['says']}")
     for tool in entry["tools"]:
-        set_up(tool, text)
+        set_up(tool, text, bool(lenient))
     if step.given_flag("bundler-cache"):
         step.warn("bundler-cache: no gems are installed here; the steps use those that are there")
     step.set_output("cache-hit", "false")

@@ -54,6 +54,13 @@ def numbers() -> list[str]:
     return re.findall(r"\d+", os.path.basename(os.environ["GITHUB_OUTPUT"]))
 
 
+def mark_another(text: str) -> None:
+    """Notes for the end of the execution that the step used another version than was asked for."""
+    place = pathlib.Path(os.environ["GITHUB_PATH"]).parent / f"another-{'-'.join(numbers())}"
+    with open(place, "a", encoding="utf-8") as file:
+        file.write(f"{text}\n")
+
+
 def split_action(text: str) -> tuple[str, str]:
     """The action's name in small letters and its ref, of the text of `uses`."""
     name, _, ref = text.partition("@")
@@ -65,6 +72,8 @@ def start(main: Callable[..., None]) -> None:
     try:
         main(*sys.argv[1:])
     except OSError as error:
-        fail(f"{error.filename}: {error.strerror}")
+        fail(f"{error.filename or 'a file cannot be written'}: {error.strerror}")
     except KeyError as error:
         fail(f"the variable {error} is not set: `actrun try` starts this program")
+    except Exception as error:  # (of what nobody foresaw)
+        fail(f"unforeseen: {type(error).__name__}: {error}; please report it to whom you have actrun from")

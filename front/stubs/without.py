@@ -1,4 +1,4 @@
-"""Stands for an action that does nothing here: it calls GitHub, or this program ships no stub for it.
+"""Replaces an action that does nothing here: it calls GitHub, or this program ships no stub for it.
 
 The step fails with a sentence that says how to name a program for it; with `--lenient` it is skipped with a warning. The reason is
 what README.md, the page of the actions, has in its last column.
@@ -13,7 +13,7 @@ import step
 
 
 def reason(text: str) -> str:
-    """Why nothing stands for the action."""
+    """Why nothing replaces the action."""
     if text.startswith("."):
         return f"the local action {text} is not only made of `run` steps, so it is not inlined"
     if text.startswith("docker://"):
@@ -22,16 +22,17 @@ def reason(text: str) -> str:
         return f"{text} is a workflow of another repository, which is not fetched"
     name, page = step.split_action(text)[0], (pathlib.Path(__file__).parent / "README.md").read_text(encoding="utf-8")
     why = re.search(rf"^\| `{re.escape(name)}` \|.*\| (.+) \|$", page, re.MULTILINE | re.IGNORECASE)
-    return f"{name} {why[1]}" if why else f"no program stands for the action {text}"
+    return f"{name} {why[1]}" if why else f"no program replaces the action {text}"
 
 
-def main(text: str, lenient: str = "") -> None:
-    """Skips or fails the step of the action."""
-    if lenient:
-        step.warn(f"skipped: {reason(text)}")
+def main(text: str, *words: str) -> None:
+    """Skips or fails the step of the action, for the reason behind `--why=` if there is one."""
+    why = next((word.partition("=")[2] for word in words if word.startswith("--why=")), "") or reason(text)
+    if "--lenient" in words:
+        step.warn(f"skipped: {why}")
         return
     key = text if text.startswith((".", "docker://")) else text.partition("@")[0]
-    step.fail(f"{reason(text)}. Name a program for it with --stub {key}=PROGRAM (/bin/true does nothing), "
+    step.fail(f"{why}. Name a program for it with --stub {key}=PROGRAM (/bin/true does nothing), "
               "or skip all such steps with --lenient")
 
 

@@ -94,6 +94,18 @@ class Composite(LowerCase):
         self.assertEqual(self.run_plan(), ["given", "empty"])
 
 
+class CheckedOut(LowerCase):
+    def test_an_action_below_a_path_of_checkout(self):
+        self.write("hello/action.yml", HELLO)
+        self.write("sub/other/action.yml", FAILING)
+        steps = ("{uses: actions/checkout@v4, with: {path: sub}}, {uses: actions/checkout@v4, with: {path: foreign, repository: o/r}}, "
+                 "{uses: ./sub/hello, with: {who: x}}, {uses: ./sub/other}, {uses: ./foreign/hello}, {uses: ./subx/hello}")
+        job = self.job(f"steps: [{steps}]")
+        self.assertEqual([step.get("uses", "run") for step in job["steps"]],
+                         ["actions/checkout@v4"] * 2 + ["run"] * 2 + ["run"] * 6 + ["./foreign/hello", "./subx/hello"])
+        self.assertEqual(job["steps"][2]["env"]["GITHUB_ACTION_PATH"], f"{self.top}/sub/hello")
+
+
 class Hashed(LowerCase):
     def test_patterns_that_are_inputs(self):
         self.write("a.lock", "one\n")

@@ -1,4 +1,4 @@
-"""The page of the stubs has a row for each action of `actions.json`, and then the actions for which nothing stands.
+"""The page of the stubs has a row for each action of `actions.json`, and then actions that are executed themselves.
 
 After a change of `actions.json`, `python3 -m tests.test_stubs_page` in this folder's parent prints the rows that the page needs.
 """
@@ -30,7 +30,7 @@ def row(name: str, entry: dict) -> str:
         return f"| `{name}` | "
     if "says" in entry:
         return f"| `{name}` | does nothing | {entry['says']} |"
-    return f"| `{name}` | {'; '.join(finds(tool) for tool in entry['tools'])} | installs nothing; warns of another version |"
+    return f"| `{name}` | {'; '.join(finds(tool) for tool in entry['tools'])} | installs nothing; fails where the version is not there |"
 
 
 def rows() -> list[str]:
@@ -47,7 +47,7 @@ class Page(unittest.TestCase):
         for line in written:
             self.assertRegex(line, r"\A\| `[^`]+` \| [^|]+ \| [^|]+ \|\Z")
         for line in written[len(rows()):]:
-            self.assertRegex(line, r"\A\| `[^`]+` \| fails, or is skipped with `--lenient` \| ")
+            self.assertRegex(line, r"\A\| `[^`]+` \| is executed itself \| ")
         self.assertEqual(len({line.split("`")[1].lower() for line in written}), len(written))
 
 
