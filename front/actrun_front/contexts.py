@@ -2,18 +2,24 @@
 from __future__ import annotations
 
 import argparse
+import functools
+import hashlib
 import json
 import platform
 import re
-from dataclasses import dataclass
+from dataclasses import dataclass, field
 from pathlib import Path
-from typing import Any
+from typing import Any, Callable
 from urllib.parse import urlsplit
 
-from . import Problem
+from stubs.automaton import Automaton
+
+from . import Problem, read_json
+from .lower_numbers import settled
 from .lower_tree import texts
 from .options import read_text
 from .tree import GITHUB, Facts, Room, git
+from .yaml_reader import Number
 
 GREATEST = 9007199254740991
 NO_COMMIT = "0" * 40
@@ -25,7 +31,6 @@ TYPES = dict.fromkeys(("pull_request", "pull_request_target"), ["opened", "synch
 # of `github.ref`: events of the current branch or tag, and those of the payload; all others are of the default branch
 OF_CURRENT = ("workflow_call", "create", "merge_group", "repository_dispatch", "release")
 OF_PAYLOAD = ("push", "workflow_dispatch")
-WILD = {"**/": "(.*/)?", "**": ".*", "*": "[^/]*", "?": "?", "+": "+"}
 
 
 @dataclass(frozen=True)
@@ -39,6 +44,8 @@ class Play:
     room: Room
     number: int                            # of the run, from 1
     identity: int                          # of the run
+    actions: Any = None                    # (action_sources.Actions) how each `uses` is executed
+    needs: dict[str, Any] = field(default_factory=dict)  # of late jobs by workflow, when known
 
     @property
     def workspace(self) -> Path:
@@ -83,16 +90,28 @@ def github_context(play: Play, event: dict[str, Any], workflow: str, name: str) 
     host = urlsplit(facts.server).netloc
     api = f"https://api.{host}" if host == GITHUB or host.endswith(".ghe.com") else f"{facts.server}/api"
     return {
-        "actor": facts.actor, "actor_id": "", "api_url": f"{api}/v3" if api.endswith("/api") else api, "base_ref": base,
+        "actor": facts.actor, "actor_id": text_at(event, "sender", "id") or str(number_for("user", facts.actor)), "api_url": f"{api}/v3" if api.endswith("/api") else api, "base_ref": base,
         "event": event, "event_name": play.event, "graphql_url": f"{api}/graphql", "head_ref": head, "ref": ref,
         "ref_name": re.sub(r"^refs/(heads/|tags/|pull/)?", "", ref), "ref_protected": False,
         "ref_type": "tag" if ref.startswith("refs/tags/") else "branch" if ref else "",
-        "repository": facts.full_name, "repository_id": "", "repository_owner": facts.owner, "repository_owner_id": "",
+        "repository": facts.full_name, "repository_owner": facts.owner,
+        "repository_id": text_at(event, "repository", "id") or str(number_for("repository", known_as(facts))),
+        "repository_owner_id": text_at(event, "repository", "owner", "id") or str(number_for("user", facts.owner or facts.actor)),
         "repositoryUrl": f"git://{facts.web.partition('://')[2]}.git" if facts.web else "",
         "retention_days": "90", "run_attempt": "1", "run_id": str(play.identity), "run_number": str(play.number),
         "secret_source": "Actions" if play.options.secrets else "None", "server_url": facts.server, "sha": sha,
         "triggering_actor": facts.actor, "workflow": name, "workflow_ref": f"{facts.full_name}/{workflow}@{ref}".lstrip("/"),
         "workflow_sha": facts.sha, "workspace": str(play.workspace)}
+
+
+def number_for(kind: str, name: str) -> int:
+    """A number in place of GitHub's for a user or a repository: the same for the same name."""
+    return 100_000_000 + int(hashlib.sha256(f"{kind} {name.lower()}".encode("utf-8", "replace")).hexdigest()[:12], 16) % 900_000_000
+
+
+def known_as(facts: Facts) -> str:
+    """The name of the repository, that of its folder where it is not hosted."""
+    return facts.full_name or facts.top.name
 
 
 def text_at(value: Any, *path: str) -> str:
@@ -130,7 +149,7 @@ def read_inputs(trigger: Any, values: dict[str, str], workflow: str) -> dict[str
         kind, choices = str(entry.get("type")), entry.get("options")
         choices = list(map(text_of, choices)) if kind == "choice" and isinstance(choices, list) else []
         value = next((text for key, text in values.items() if key.lower() == name.lower()), entry.get("default"))
-        text = text_of(value)
+        text = text_of(settled(value) if isinstance(value, Number) else value)
         if value is None and entry.get("required") is True:
             raise Problem(f"{workflow}: the input {name} is required: --input {name}=VALUE")
         if value is None:
@@ -141,8 +160,7 @@ def read_inputs(trigger: Any, values: dict[str, str], workflow: str) -> dict[str
             if not re.fullmatch("(?i)true|false" if kind == "boolean" else NUMBER, text):
                 what = "truth value: --input {0}=true, or false" if kind == "boolean" else "number: --input {0}=1"
                 raise Problem(f"{workflow}: the input {name} is {text}, no {what.format(name)}")
-            # (fractions stay texts, and so do numbers that are too great)
-            result[name] = json.loads(text.lower()) if kind == "boolean" or re.fullmatch("0|-?[1-9][0-9]{0,14}", text) else text
+            result[name] = json.loads(text.lower()) if kind == "boolean" else settled(text)
         else:
             result[name] = text
     return result
@@ -151,7 +169,7 @@ def read_inputs(trigger: Any, values: dict[str, str], workflow: str) -> dict[str
 def read_payload(file: Path) -> dict[str, Any]:
     """The payload of --eventpath as a plan can hold it: fractions and numbers that are too great become texts."""
     try:
-        data = json.loads(read_text(file, "--eventpath"), parse_float=str, parse_constant=str,
+        data = read_json(read_text(file, "--eventpath"), parse_float=settled, parse_constant=str,
                           parse_int=lambda text: int(text) if abs(int(text)) <= GREATEST else text)
     except (ValueError, RecursionError) as error:
         raise Problem(f"--eventpath {file}: this is no JSON ({error})") from None
@@ -163,12 +181,12 @@ def read_payload(file: Path) -> dict[str, Any]:
 def payload(event: str, facts: Facts, trigger: Any, workflow: str, inputs: dict[str, Any]) -> dict[str, Any]:
     """The payload of `event` for one workflow in the shape that GitHub documents for webhooks, with what git knows;
     `trigger` is what the workflow has at the event's name under `on`."""
-    user = {"login": facts.actor, "type": "User"}
+    user = {"login": facts.actor, "id": number_for("user", facts.actor), "type": "User"}
     repository = {
-        "name": facts.name or facts.top.name, "full_name": facts.full_name, "html_url": facts.web, "url": facts.web,
+        "id": number_for("repository", known_as(facts)), "name": facts.name or facts.top.name, "full_name": facts.full_name, "html_url": facts.web, "url": facts.web,
         "clone_url": f"{facts.web}.git" if facts.web else "", "default_branch": facts.default_branch,
         "master_branch": facts.default_branch, "fork": False, "private": False, "visibility": "public",
-        "owner": {"login": facts.owner, "name": facts.owner, "html_url": f"{facts.server}/{facts.owner}"}}
+        "owner": {"login": facts.owner, "id": number_for("user", facts.owner or facts.actor), "name": facts.owner, "html_url": f"{facts.server}/{facts.owner}"}}
     common = {"repository": repository, "sender": user}
     if event == "push":
         return {**common, **push(facts)}
@@ -254,7 +272,8 @@ def changed_files(top: Path, event: str, data: dict[str, Any]) -> list[str]:
         return []
     if not ends[0].strip("0"):
         ends[0] = git(top, "hash-object", "-t", "tree", "/dev/null") or ""
-    compare = ("diff", "--name-only", "--no-renames", "--relative", "-z")
+    # (to look into a submodule, git would start itself there by the submodule's configuration)
+    compare = ("diff", "--name-only", "--no-renames", "--relative", "-z", "--ignore-submodules=dirty", "--no-ext-diff", "--no-textconv")
     pushed = git(top, *compare, *(ends if event == "push" else ["...".join(ends)]), "--")
     others = [git(top, *compare, "HEAD", "--"), git(top, "ls-files", "-o", "--exclude-standard", "-z")]
     return [] if pushed is None else sorted({name for names in (pushed, *others) for name in (names or "").split("\0") if name})
@@ -264,10 +283,42 @@ def matches(globs: Any, name: str) -> bool:
     """Whether the last pattern that fits the name is one without `!`. A pattern has `*`, `**`, `?` and `+` after a character, and `[..]`."""
     result = False
     for glob in map(str, globs if isinstance(globs, list) else [globs]):
-        parts = re.findall(r"\*\*/|\*\*|\\.|\[[^\]]*\]|.", glob[glob.startswith("!"):], re.DOTALL)
-        try:
-            if re.fullmatch("".join(WILD.get(part) or (part if len(part) > 1 else re.escape(part)) for part in parts), name):
-                result = not glob.startswith("!")
-        except re.error:
-            continue
+        pattern = filter_pattern(glob[glob.startswith("!"):])
+        if pattern is not None and pattern.fullmatch(name):
+            result = not glob.startswith("!")
     return result
+
+
+def of_class(part: str) -> Callable[[str], bool]:
+    """The test of a character by a part of a pattern: a class, or a character that means itself. Raises re.error."""
+    if len(part) > 2 and part[0] == "[":
+        found = re.compile(part, re.DOTALL)
+        return lambda char: found.fullmatch(char) is not None
+    return part[-1].__eq__
+
+
+@functools.lru_cache(maxsize=1024)
+def filter_pattern(glob: str) -> Automaton | None:
+    """The automaton of a filter's pattern; None where it cannot be read, so that nothing fits it."""
+    parts, made, at = re.findall(r"\*\*/|\*\*|\\.|\[[^\]]*\]|.", glob, re.DOTALL), Automaton(), 0
+    while at < len(parts):
+        part, more = parts[at], parts[at + 1] if at + 1 < len(parts) else ""
+        at += 1
+        if part == "**/":  # (the whole of it or nothing: the first state takes no character)
+            made.edges[len(made.tests)] = [len(made.tests) + 1, len(made.tests) + 3]
+            made.add(lambda _: False)
+            made.add(bool, many=True, none=True)
+            made.add("/".__eq__)
+        elif part in ("**", "*"):
+            made.add(bool if part == "**" else lambda char: char != "/", many=True, none=True)
+        if part[0] == "*":
+            at += more in ("?", "+")  # (which say nothing after a star)
+            continue
+        try:
+            if part in ("?", "+"):
+                return None
+            made.add(of_class(part), many=more == "+", none=more == "?")
+        except re.error:
+            return None
+        at += more in ("?", "+")
+    return made

@@ -5,16 +5,66 @@ import json
 import re
 import subprocess
 from dataclasses import dataclass, field
-from typing import Any, Callable, Dict, Iterable, List, NamedTuple, Optional, Set, Tuple
+from typing import Any, Callable, Dict, Iterable, Iterator, List, NamedTuple, Optional, Set, Tuple
 
 NAME, TEXT = r"[A-Za-z_][A-Za-z0-9_-]*", r"'(?:[^']|'')*'"
 KEY = rf"\s*\.\s*({NAME})|\s*\[\s*({TEXT})\s*\]"  # a property that is written out
 TOKEN = re.compile(rf"""(?P<text>{TEXT}) | (?P<fraction>[-+]?(?:[0-9]+\.[0-9]*|\.[0-9]+)(?![\w.+-])) | (?P<number>[-+]?\.?[0-9][\w.+-]*)
     | (?P<call>{NAME}\s*\((?:\s*(?:{TEXT}\s*(?:,\s*{TEXT}\s*)*)?\))?) | (?P<access>{NAME}(?:{KEY})*) | (?P<property>\.\s*(?:\*|{NAME}))
     | (?P<operator><=|>=|==|!=|&&|\|\||[][(),*!<>.]) | (?P<space>\s+) | (?P<wrong>.)""", re.VERBOSE | re.ASCII)
-PIECE = re.compile(r"\$\{\{((?:'[^']*'|[^'}]|\}(?!\}))*)\}\}")
+ONE_PIECE = re.compile(r"\$\{\{((?:'[^']*'|[^'}]|\}(?!\}))*)\}\}")
 STATUS = {"success", "failure", "always", "cancelled"}
 LITERALS = {"true", "false", "null"}
+
+
+class Pieces:
+    """The expressions in templates. They are found in time linear in the text: where one is not closed, no later one is that begins after
+    an even number of quotes."""
+
+    def finditer(self, text: str) -> Iterator[re.Match[str]]:
+        """Each `${{ .. }}`, with what is inside as its group."""
+        failed: Set[int] = set()
+        quotes, counted, place = 0, 0, text.find("${{")
+        while place >= 0 and len(failed) < 2:
+            quotes, counted = quotes + text.count("'", counted, place), place
+            found = None if quotes % 2 in failed else ONE_PIECE.match(text, place)
+            if found:
+                yield found
+            else:
+                failed.add(quotes % 2)
+            place = text.find("${{", found.end() if found else place + 1)
+
+    def search(self, text: str) -> re.Match[str] | None:
+        """The first one."""
+        return next(self.finditer(text), None)
+
+    def fullmatch(self, text: str) -> re.Match[str] | None:
+        """The one that is the whole text."""
+        found = self.search(text)
+        return found if found and found[0] == text else None
+
+    def findall(self, text: str) -> List[str]:
+        """What is inside of each."""
+        return [found[1] for found in self.finditer(text)]
+
+    def split(self, text: str) -> List[str]:
+        """The text around them, and what is inside of them, interleaved."""
+        made, at = [], 0
+        for found in self.finditer(text):
+            made += [text[at:found.start()], found[1]]
+            at = found.end()
+        return [*made, text[at:]]
+
+    def sub(self, new: Callable[[re.Match[str]], str], text: str) -> str:
+        """The text with others in place of them."""
+        made, at = [], 0
+        for found in self.finditer(text):
+            made += [text[at:found.start()], new(found)]
+            at = found.end()
+        return "".join([*made, text[at:]])
+
+
+PIECE = Pieces()
 
 
 class EvaluationError(Exception):
@@ -27,12 +77,12 @@ class Access(NamedTuple):
     keys: Tuple[str, ...]
 
 
-Replacement = Optional[Tuple[str, int]]  # what stands in for an access, and how many keys it takes in; None leaves it as it is
+Replacement = Optional[Tuple[str, int]]  # what replaces an access, and how many keys it takes in; None leaves it as it is
 
 
 @dataclass
 class Rules:
-    """What stands in for contexts, for calls by their arguments (None where one is no text in quotes), and for fractions."""
+    """What replaces contexts, calls by their arguments (None if one is no string in quotes), and fractions."""
     contexts: Dict[str, Callable[[Access], Replacement]] = field(default_factory=dict)
     calls: Dict[str, Callable[[Optional[List[str]]], str]] = field(default_factory=dict)
     fraction: Optional[Callable[[str], str]] = None

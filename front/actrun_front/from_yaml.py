@@ -2,23 +2,23 @@
 from __future__ import annotations
 
 import argparse
-import json
 import os
 import pathlib
 import sys
 from typing import Any
 
-from . import Problem
+from . import Problem, read_json
 from .lower import Setting, lower
 from .options import matrix, unknown_matrix
+from .visible import visible
 from .yaml_reader import Document, Note, Refused, read_document, text_of
 
 ABOUT = """\
 Makes JSON, as `actrun` reads it, of workflows in YAML.
 
-Each FILE holds one workflow. Its JSON is written beside it, to FILE with `.json` in the place of `.yml` or `.yaml`, over an
-older file of that name. With `-o OUT` the JSON of the one FILE is written to OUT, and with `-o -` to standard output. The
-FILE `-` is standard input, whose JSON goes to standard output unless -o names a place.
+Each FILE holds one workflow. Its JSON is written beside it, to FILE with `.json` in the place of `.yml` or `.yaml`. A file of
+that name that has something else is replaced with `--force` alone. With `-o OUT` the JSON of the one FILE is written to OUT,
+and with `-o -` to standard output. The FILE `-` is standard input, whose JSON goes to standard output unless -o names a place.
 
 YAML is read as GitHub reads it, by the core schema of YAML 1.2: `on`, `yes`, `2024-01-01` and `12:30:45` are texts. `true`,
 `True`, `TRUE` and the like are truth values; `null`, `~` and nothing are null; `8`, `010`, `0x1f` and `0o17` are the whole
@@ -27,10 +27,10 @@ Where GitHub reads another text (3.1 for 3.10), a line on standard error says so
 
 Anchors, aliases and `<<` are written out. A file is refused, by lines `FILE:LINE: SENTENCE` on standard error, if it is not
 UTF-8 or not YAML, or has a second document, a key that is twice in a map or is not a text, a tag beyond the core schema, an
-alias without its anchor or inside it, infinity or no number, half a character, more than 127 levels, or more than 200000 values.
+alias without its anchor or inside it, infinity, NaN, an unpaired surrogate, more than 127 levels, or more than 200000 values.
 
 With --lower the workflow is rewritten so that `actrun plan` takes it, and a line on standard error names each thing that was
-replaced or dropped: hashFiles, `runner`, shells other than sh and bash, containers and services, called workflows, composite
+replaced or dropped: numbers with fractions, hashFiles, `runner`, shells other than sh and bash, containers and services, called workflows, composite
 actions of the repository, matrices and variables by expression, limits of time, and legs for Windows and macOS.
 
 Exit statuses: 0 all JSON is written, 2 the arguments or a FILE is refused, 3 a file, a stream or the library failed."""
@@ -43,6 +43,7 @@ def parsed(given: list[str]) -> argparse.Namespace:
     parser.print_usage = lambda file=None: None
     add = parser.add_argument
     add("-o", metavar="OUT", help="the place of the JSON of one FILE; - is standard output")
+    add("--force", action="store_true", help="replace a FILE.json beside FILE that has something else")
     add("--lower", action="store_true", help="rewrite the workflow for `actrun plan`")
     add("--contexts", metavar="FILE", help="JSON with the objects github, inputs, vars, secrets and runner, as far as they are known; hand the "
         "same file to `actrun plan`")
@@ -66,7 +67,7 @@ def parsed(given: list[str]) -> argparse.Namespace:
 
 def contexts_of(name: str) -> dict[str, Any]:
     """The objects in the file of --contexts. Raises ValueError where it holds something else."""
-    given = json.loads(pathlib.Path(name).read_bytes())
+    given = read_json(pathlib.Path(name).read_bytes())
     for key in ("github", "inputs", "vars", "secrets", "runner"):
         if not isinstance(given, dict) or not isinstance(given.get(key, {}), dict):
             raise ValueError("it must hold a JSON object whose github, inputs, vars, secrets and runner are objects")
@@ -95,17 +96,32 @@ def convert(name: str, options: argparse.Namespace, known: dict[str, Any]) -> in
         if options.lower and not document.faults:
             document = lowered(document, name, options, known)
         for note in document.faults or document.notes:
-            print(f"{'standard input' if name == '-' else name}:{note.line}: {note.text}", file=sys.stderr)
+            shown = "standard input" if name == "-" else name
+            print(visible(f"{shown}:{note.line}: {note.text}"), file=sys.stderr)
         if document.faults:
             return 2
         place = "standard output" if out == "-" else out
+        text = (text_of(document.value) + "\n").encode()
+        if not options.o and out != "-" and not options.force and has_other(out, text):
+            print(f"from-yaml: {out} is there already, with something else: "
+                  "--force replaces it, -o OUT names another place", file=sys.stderr)
+            return 2
         with open(1 if out == "-" else out, "wb", closefd=out != "-") as it:
-            it.write((text_of(document.value) + "\n").encode())
+            it.write(text)
         return 0
     except (OSError, ValueError) as fault:  # a name with a zero byte is a ValueError
         named = getattr(fault, "filename", None)
-        print(f"from-yaml: {named if isinstance(named, str) else place}: {getattr(fault, 'strerror', None) or fault}", file=sys.stderr)
+        why = getattr(fault, "strerror", None) or fault
+        print(visible(f"from-yaml: {named if isinstance(named, str) else place}: {why}"), file=sys.stderr)
         return 3
+
+
+def has_other(name: str, text: bytes) -> bool:
+    """Whether there is a file of that name which is not empty and has another text."""
+    place = pathlib.Path(name)
+    if not place.is_file() or place.stat().st_size == 0:
+        return False
+    return place.stat().st_size != len(text) or place.read_bytes() != text
 
 
 def main(arguments: list[str]) -> int:
@@ -114,10 +130,11 @@ def main(arguments: list[str]) -> int:
     try:
         known = contexts_of(options.contexts) if options.contexts is not None else {}
     except (OSError, ValueError) as fault:
-        print(f"from-yaml: --contexts {options.contexts}: {getattr(fault, 'strerror', None) or fault}", file=sys.stderr)
+        why = getattr(fault, "strerror", None) or fault
+        print(visible(f"from-yaml: --contexts {options.contexts}: {why}"), file=sys.stderr)
         return 3 if isinstance(fault, OSError) else 2
     status = max(convert(name, options, known) for name in options.names)
     wrong = "" if status else unknown_matrix(options.matrix, options.asked)
     if wrong:
-        print(f"from-yaml: {wrong}", file=sys.stderr)
+        print(visible(f"from-yaml: {wrong}"), file=sys.stderr)
     return 2 if wrong else status

@@ -10,9 +10,13 @@ from __future__ import annotations
 import hashlib
 import os
 import pathlib
-import subprocess
 
 from stubs.globs import Pattern, is_chosen, starts, translated
+
+from .files import open_inside
+from .repository import ask, find_top
+
+MOST_BYTES = 4 * 1024 ** 3  # of all files of one call
 
 
 class GlobError(Exception):
@@ -38,29 +42,64 @@ def read_pattern(line: str, workspace: str) -> Pattern | None:
 
 def files_of(repository: pathlib.Path) -> list[tuple[str, ...]]:
     """All files that a checkout has, with new ones that git does not ignore, in the order in which the search meets them."""
-    command = ["git", "-C", str(repository), "ls-files", "-z", "--cached", "--others", "--exclude-standard"]
-    try:
-        listed = subprocess.run(command, capture_output=True, check=True).stdout.split(b"\0")
-        files = {tuple(os.fsdecode(name).split("/")) for name in listed if name}
-    except (OSError, ValueError, subprocess.CalledProcessError):  # the folder is no repository of git
-        files = {path.relative_to(repository).parts for path in repository.rglob("*") if path.is_symlink() or not path.is_dir()}
-        files = {path for path in files if ".git" not in path}
-    return sorted(files, key=lambda path: [os.fsencode(name) for name in path])
+    answer = ask(repository, "ls-files", "-z", "--cached", "--others", "--exclude-standard") if find_top(repository) else None
+    if answer is not None and answer.returncode == 0:
+        found = {tuple(os.fsdecode(name).split("/")) for name in answer.stdout.split(b"\0") if name}
+    else:  # the folder is no repository of git
+        walked = ((os.path.relpath(folder, repository), name) for folder, folders, names in os.walk(repository)
+                  for name in (*names, *filter(lambda name: os.path.islink(os.path.join(folder, name)), folders)))
+        found = {(*(() if folder == "." else folder.split("/")), name) for folder, name in walked}
+        found = {path for path in found if ".git" not in path}
+    return sorted(found, key=lambda path: [os.fsencode(name) for name in path])
 
 
-def matching(arguments: list[str], repository: pathlib.Path, workspace: str = "") -> list[tuple[str, ...]]:
-    """The files that hashFiles reads, in order. `workspace` is the path that expressions know for the repository."""
+def files_there(folder: pathlib.Path) -> list[tuple[str, ...]]:
+    """All files of a folder but those of git, in the order in which the search meets them. No link is followed."""
+    found = []
+    for place, folders, names in os.walk(folder):
+        parts = pathlib.Path(place).relative_to(folder).parts
+        links = [name for name in folders if os.path.islink(os.path.join(place, name))]
+        found += [(*parts, name) for name in (*names, *links)]
+        folders[:] = [name for name in folders if name != ".git"]
+    return sorted(found, key=lambda path: [os.fsencode(name) for name in path])
+
+
+def matching(arguments: list[str], repository: pathlib.Path, workspace: str = "",
+             there: bool = False) -> list[tuple[str, ...]]:
+    """The files that hashFiles reads, in order: of the repository, or of all that are `there`. `workspace` is the
+    path that expressions know for the repository."""
     if arguments and arguments[0].startswith("--"):
         raise GlobError(f"hashFiles takes no option here: leave {arguments[0]} out")
     lines = [line.strip() for line in "\n".join(arguments).split("\n")]
     read = [read_pattern(line, workspace.rstrip("/")) for line in lines if line and not line.startswith("#")]
     patterns = [pattern for pattern in read if pattern is not None]
-    chosen = [path for path in files_of(repository) if is_chosen(patterns, path)] if patterns else []
+    files = (files_there if there else files_of)(repository) if patterns else []
+    chosen = [path for path in files if is_chosen(patterns, path)]
     return list(dict.fromkeys(path for start in starts(patterns) for path in chosen if path[:len(start)] == start))
 
 
-def digest(arguments: list[str], repository: pathlib.Path, workspace: str = "") -> str:
-    """What `hashFiles(ARGUMENTS)` gives: 64 hexadecimal digits, or an empty text where no file matches. Raises GlobError or OSError."""
-    files = [repository.joinpath(*path) for path in matching(arguments, repository, workspace)]
-    inner = [hashlib.sha256(file.read_bytes()).digest() for file in files if file.is_file()]
+def file_digest(number: int, most: int) -> tuple[bytes, int]:
+    """The digest of a file's descriptor, which is closed, and its length. Raises GlobError where it is too long."""
+    with open(number, "rb") as file:
+        length = os.fstat(number).st_size
+        if length > most:
+            raise GlobError(f"the files that it matches have more than {MOST_BYTES >> 30} GiB")
+        found = hashlib.sha256()
+        for part in iter(lambda: file.read(1 << 20), b""):
+            found.update(part)
+        return found.digest(), length
+
+
+def digest(arguments: list[str], repository: pathlib.Path, workspace: str = "", there: bool = False) -> str:
+    """What `hashFiles(ARGUMENTS)` gives: 64 hexadecimal digits, or an empty text where no file matches. Links that lead out of the
+    repository are not followed. Raises GlobError or OSError."""
+    inner, left = [], MOST_BYTES
+    for path in matching(arguments, repository, workspace, there):
+        try:
+            number = open_inside(repository, repository.joinpath(*path))
+        except OSError:
+            continue
+        found, length = file_digest(number, left)
+        left -= length
+        inner.append(found)
     return hashlib.sha256(b"".join(inner)).hexdigest() if inner else ""

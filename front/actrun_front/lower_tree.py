@@ -14,6 +14,7 @@ from .hash_files import GlobError, digest
 from .yaml_reader import Mark, Note, Refused, mark_of, members, short, text_of
 
 EXPRESSION_CONTEXTS = ("github", "inputs", "vars", "runner")  # those that GitHub gives before execution and outside of steps
+MOST_INLINED = 10_000
 RUNNER = {"os": "Linux", "arch": "X64", "name": "actrun", "temp": "/tmp", "tool_cache": "/opt/hostedtoolcache", "debug": "",
           "environment": "self-hosted"}
 
@@ -23,11 +24,18 @@ class Setting:
     """What is known before execution."""
     repository: pathlib.Path  # the tree for hashFiles, local actions and called workflows
     contexts: Dict[str, Any] = field(default_factory=dict)  # github, inputs, vars, secrets, runner
-    matrices: Dict[Tuple[str, str], Any] = field(default_factory=dict)  # (job id, variable) -> value that stands in for an expression
+    matrices: Dict[Tuple[str, str], Any] = field(default_factory=dict)  # (job id, variable) -> value that replaces an expression
     any_system: bool = False  # execute legs for Windows and macOS too
     evaluate: Optional[Callable[[str, dict], Any]] = None  # the value of an expression; raises EvaluationError
     legs: Optional[Callable[[Any], List[dict]]] = None  # the combinations of a matrix; raises EvaluationError
+    containers: str = "drop"  # how `container` and `services` are executed: "drop", "keep", or why they are refused
+    strict: bool = False  # refuse what GitHub refuses in called workflows
     sh_line: str = ""  # the words that every script of the shell sh begins with
+    relay: str = ""  # the command that executes another one and carries out `::set-output` and the like
+    actions: Any = None  # (action_sources.Actions) where actions of other repositories are
+    watched: bool = False  # steps are watched and ended: variables give their limits of time
+    staged: bool = False  # a strategy may be known only after other jobs
+    needs: Dict[str, Dict[str, Any]] = field(default_factory=dict)  # job id -> its context `needs`, if known
 
 
 class Lowering:
@@ -39,7 +47,11 @@ class Lowering:
         self.notes: Dict[Note, None] = {}
         self.foreign: List[Tuple[str, str]] = []
         self.guards: Set[str] = set()  # conditions that keep steps of such legs from being executed
+        self.orders: Dict[str, List[str]] = {}  # job id -> variables of its matrix as they are written
+        self.inlined = 0
         self.asked: Set[Tuple[str, str]] = set()  # (job id, variable): the places where a value could have been given
+        self.dockers: Dict[str, Any] = {}  # text of `uses` -> the Docker action of another repository
+        self.late: Dict[str, List[str]] = {}  # jobs whose strategy comes with others -> those that they need
         self.value_of = setting.evaluate or program.evaluate
         self.combinations = setting.legs or program.legs  # raises EvaluationError where the planner refuses a matrix
         self.workspace = str((setting.contexts.get("github") or {}).get("workspace") or setting.repository.absolute()).rstrip("/")
@@ -53,6 +65,12 @@ class Lowering:
     def refuse(self, mark: Mark, text: str) -> Refused:
         """The error for a line; the caller raises it."""
         return Refused(mark.line, f"{mark.inside}: {text}" if mark.inside else text)
+
+    def count(self, mark: Mark, number: int) -> None:
+        """Counts what is inlined. Raises Refused where it is too much: a few files that use one another can result in millions of steps."""
+        self.inlined += number
+        if self.inlined > MOST_INLINED:
+            raise self.refuse(mark, f"the workflow has more than {MOST_INLINED} jobs and steps once actions and called workflows are inlined")
 
     def evaluate(self, expression: str, more: Optional[dict] = None) -> Any:
         """The value of an expression over what is known before execution and `more`. Raises EvaluationError."""
@@ -127,7 +145,7 @@ class KnownContexts(Rules):
     """The rules for the texts of one step, of the job where there is no step, or of the workflow where there is no job."""
 
     def __init__(self, lowering: Lowering, job_id: str = "", action: str = ""):
-        super().__init__({"runner": self.runner, "github": self.github}, {"hashfiles": self.hash_files}, self.fractional)
+        super().__init__({"runner": self.runner, "github": self.github}, {"hashfiles": self.hash_files})
         self.lowering, self.note = lowering, lambda text: lowering.note(self.mark, text)
         self.of_place = {"job": job_id, "action": action}
 
@@ -161,11 +179,6 @@ class KnownContexts(Rules):
             raise self.lowering.refuse(self.mark, f"{call} has no value: {fault}") from None
         self.note(f"{call} is replaced by " + (f"the digest {value[:12]}.. of the repository's files" if value else "an empty text: no file matches"))
         return literal(value)
-
-    def fractional(self, text: str) -> str:
-        """A fraction becomes a text, as the reader of YAML makes texts of fractions."""
-        self.note(f"the number {text} is compared as a text: actrun has whole numbers only")
-        return literal(text)
 
 
 def rewrite_texts(node: Any, rules: Rules, whole: bool = True) -> None:

@@ -8,22 +8,30 @@ from dataclasses import dataclass, field, replace
 from pathlib import Path
 from typing import Any
 
-from . import Problem
+from . import Problem, syntax
 from .actions import named_program
+from .containers import lacks as lacks_engine, missing as missing_engine
 from .contexts import Play, contexts, excluded, triggers
 from .environment import SH_HOOK
 from .execute import ask
 from .explain import explain, near
+from .files import read_inside
+from .lower_legs import match_needs, sorted_legs
+from .lower_containers import needs_engine
 from .lower import Lowered, Refused, Setting, lower
 from .lower_tree import part, steps_of, texts
+from .named_secrets import named_secrets
+from .notes import lines as note_lines
+from .old_commands import RELAY
 from .options import unknown_matrix
 from .present import Screen, one_line
-from .yaml_reader import Document, copied, read_document
+from .repository import is_below
+from .yaml_reader import MOST_BYTES, Document, Note, copied, read_document
 
 
 @dataclass
 class Flow:
-    """A workflow: its file, its text, and what becomes of it."""
+    """A workflow: its file, its text, and its plan or error."""
 
     name: str                                   # the file from the top of the repository
     document: Document
@@ -33,13 +41,26 @@ class Flow:
 
     def __post_init__(self) -> None:
         self.jobs = part(self.document.value, "jobs")      # as they are in the file
+        match_needs(self.jobs)
         self.events = triggers(self.document.value)
+
+    @property
+    def run_name(self) -> str:
+        """The workflow's `run-name` with values, or nothing."""
+        name = self.lowered.value.get("run-name") if isinstance(self.lowered.value, dict) else None
+        return name if isinstance(name, str) else ""
+
+    def notes(self) -> list[Note]:
+        """What is said of the file and of what was rewritten in it."""
+        return sorted({*self.document.notes, *self.lowered.notes}, key=lambda note: note.line)
 
 
 def workflow_files(given: str | None, bases: list[Path], top: Path) -> list[Path]:
     """The files of workflows, in the order of their names."""
     places = [base / given for base in bases] if given else [top / ".github" / "workflows"]
     for place in places:
+        if not given and place.exists() and not is_below(place, top):
+            raise Problem(f"{place}: a link of it leads to {place.resolve()}, outside of the repository: name that by --workflows PATH")
         files = [place] if place.is_file() else sorted(path for path in place.glob("*") if path.suffix in (".yml", ".yaml") and path.is_file())
         if files:
             return files
@@ -48,23 +69,41 @@ def workflow_files(given: str | None, bases: list[Path], top: Path) -> list[Path
                   "--workflows PATH, or the repository by --directory DIR")
 
 
-def read_flows(files: list[Path], top: Path, screen: Screen) -> list[Flow]:
-    """The workflows of these files without those that have faults, which are shown with line and remedy. At least one is without."""
-    flows = []
+def read_flows(files: list[Path], top: Path, screen: Screen, lenient: bool = False) -> list[Flow]:
+    """The workflows of these files without those that have faults, which are shown with line and remedy. At least one is without.
+    With `lenient` what GitHub alone refuses is a warning."""
+    flows, more = [], ""
     for path in files:
-        name = path.resolve().relative_to(top.resolve()).as_posix() if top.resolve() in path.resolve().parents else str(path)
-        document = read_document(path.read_bytes())
+        real = path.parent.resolve() / path.name
+        name = real.relative_to(top.resolve()).as_posix() if top.resolve() in real.parents else str(path)
+        document = read_file(path, top)
         faults = [f"{name}:{fault.line}: {fault.text}" for fault in document.faults]
         if not faults and not isinstance(document.value, dict):
             faults = [f"{name}:1: a workflow with `on` and `jobs` was expected"]
+        refused = [] if faults else [f"{name}:{fault.line}: {fault.text}" for fault in syntax.faults(document)]
+        for fault in refused if lenient else ():
+            screen.tell(f"warning: {fault}: GitHub refuses this workflow", "warning")
+        faults += [] if lenient else refused
+        more = more or ("; --lenient executes what GitHub refuses, if it can" if refused else "")
         for fault in faults:
             screen.tell(fault, "failure")
         flows += [] if faults else [Flow(name, document)]
     if not flows:
-        raise Problem("no workflow can be read: repair one, or choose others by --workflows PATH")
+        raise Problem(f"no workflow can be read: repair one, or choose others by --workflows PATH{more}")
     if len(flows) < len(files):
         screen.tell(f"note: {len(files) - len(flows)} of {len(files)} workflows cannot be read: the others go on, and the status is 2", "warning")
     return flows
+
+
+def read_file(path: Path, top: Path) -> Document:
+    """The document of a workflow's file. A file of the repository is read where no link leads out of it; one that was named elsewhere as
+    it is."""
+    given = path.absolute()
+    inside = top if given == top or top in given.parents or is_below(given.parent, top) else path.resolve().parent
+    try:
+        return read_document(read_inside(inside, path, MOST_BYTES))
+    except OSError as error:
+        return Document(faults=[Note(1, f"this file is not read: {error.strerror}")])
 
 
 def of_event(flows: list[Flow], event: str, job: str | None, screen: Screen) -> list[Flow]:
@@ -86,6 +125,9 @@ def of_event(flows: list[Flow], event: str, job: str | None, screen: Screen) -> 
 def plan_flows(flows: list[Flow], play: Play, screen: Screen) -> tuple[list[Flow], dict[str, Any]]:
     """The workflows without those that cannot be planned, which are shown with line and remedy, and the plan. At least one can be."""
     lowered, faults = lower_flows(flows, play, screen)
+    notes = ((flow.name, note) for flow in lowered for note in flow.notes())
+    for text in note_lines(notes, bool(play.options.verbose)):
+        screen.tell(text, "note")
     answer = ask_plan(lowered, play) if lowered else None
     if answer and answer.returncode == 2:
         answers = [(flow, ask_plan([flow], play)) for flow in lowered]
@@ -105,7 +147,10 @@ def plan_flows(flows: list[Flow], play: Play, screen: Screen) -> tuple[list[Flow
         screen.tell(f"note: github.event of {play.event} has only repository and sender: --eventpath FILE names a whole payload", "note")
     plan = json.loads(answer.stdout)
     for run, flow in zip(plan["runs"], lowered):
+        for job in run["jobs"]:
+            job["legs"] = sorted_legs(job["legs"], flow.lowered.orders.get(job["id"], []))
         run["roots"] = {name: flow.contexts[name] for name in ("github", "inputs", "secrets", "vars")}
+        run["roots"]["secrets"] = named_secrets(run, flow.contexts["secrets"])
     return lowered, plan
 
 
@@ -179,16 +224,24 @@ def lower_flow(flow: Flow, number: int, play: Play, screen: Screen) -> None:
     room, options = play.room, play.options
     flow.contexts = contexts(play, flow.name, flow.document.value)
     flow.contexts["github"]["event_path"] = str(room.play / "files" / f"event-{number}.json")
-    top = room.tree if room.tree.exists() and not room.tree.is_symlink() else play.facts.top
-    setting = Setting(top, flow.contexts, options.matrices, bool(options.any_system), sh_line=SH_HOOK)
+    top = room.files if room.files.exists() and not room.files.is_symlink() else play.facts.top
+    setting = Setting(top, flow.contexts, options.matrices, bool(options.any_system), containers=engine_state(flow, options, top),
+                      sh_line=SH_HOOK, relay=RELAY, actions=play.actions, watched=True, staged=True, needs=play.needs.get(flow.name, {}),
+                      strict=not options.lenient)
     flow.lowered = lower(chosen(flow, options.job), flow.name, setting)
-    for note in sorted({*flow.document.notes, *flow.lowered.notes}, key=lambda note: note.line):
-        screen.tell(f"note: {flow.name}:{note.line}: {note.text}", "note")
     filtered = excluded(play, flow.events.get(play.event), flow.contexts["github"])
     if filtered:
         screen.tell(f"note: {flow.name}: on GitHub its filter would keep it from this event ({filtered})", "note")
     value, flow.file = flow.lowered.value, room.private / f"{number}.json"
     write_private(flow.file, json.dumps({"name": flow.name, **value} if isinstance(value, dict) else value, ensure_ascii=False))
+
+
+def engine_state(flow: Flow, options: Any, top: Path) -> str:
+    """How containers and services of a workflow are executed: the word for the lowering, or why they are refused."""
+    if options.list or options.dryrun or options.graph or not needs_engine(flow.jobs, top):
+        return "keep"
+    why = lacks_engine(options)
+    return "drop" if why and options.lenient else missing_engine(why) if why else "keep"
 
 
 def write_private(path: Path, text: str) -> None:

@@ -1,6 +1,7 @@
 """The repository: what git knows of it, the work folders of executions, and the copy of the working tree in them."""
 from __future__ import annotations
 
+import contextlib
 import errno
 import fcntl
 import functools
@@ -8,41 +9,22 @@ import hashlib
 import os
 import re
 import secrets
-import shutil
 import subprocess
 import time
 from dataclasses import dataclass, field
 from pathlib import Path
 from typing import IO, Iterator
 
-from . import Problem
+from . import Problem, files, keeping
+from .repository import alternates, ask, check, find_top, folders, git, make, of_system, setting, settings
 
+__all__ = ["ask", "find_top", "git"]
 GITHUB = "github.com"
-OF_HOOKS = ("GIT_DIR", "GIT_WORK_TREE", "GIT_INDEX_FILE", "GIT_COMMON_DIR", "GIT_PREFIX", "GIT_OBJECT_DIRECTORY")
 URLS = [re.compile(start + r"/*(?:[^/]+/)*(?P<owner>[^/]+)/(?P<name>[^/]+?)(?:\.git)?/*") for start in (
     r"(?P<scheme>https?|ssh|git|git\+ssh)://(?:[^/]*@)?(?P<host>\[[^]]+\]|[^/:@\[\]]+)(?P<port>:\d+)?/",
     r"(?P<scheme>)(?:[^@/\[\]]+@)?(?P<host>\[[^]]+\]|[^@/:\[\]]{2,})(?P<port>):(?!//)")]
-KEPT = 5
 # folders of the steps, and in `private` contexts, workflows, plan, record and diagrams, which may hold secrets
 FOLDERS = ("private", "play", *(f"play/{name}" for name in ("tree", "files", "temp", "tools", "tmp", "bin", "stubs", "artifacts")))
-
-
-def git(folder: Path, *words: str) -> str | None:
-    """What git prints, without the last newline; None where it fails or is not installed. It writes nothing and runs no hook."""
-    answer = ask(folder, *words)
-    return answer.stdout.decode("utf-8", "replace").removesuffix("\n") if answer.returncode == 0 else None
-
-
-def ask(folder: Path, *words: str) -> subprocess.CompletedProcess[bytes]:
-    """The whole answer of git; status 127 where it is not installed."""
-    # within a hook of git, variables name the repository of the hook
-    environment = {name: value for name, value in os.environ.items() if name not in OF_HOOKS}
-    environment.update(GIT_OPTIONAL_LOCKS="0", LC_ALL="C")
-    try:
-        return subprocess.run(["git", "-c", "core.fsmonitor=false", "-C", os.fspath(folder), *words], env=environment,
-                              stdin=subprocess.DEVNULL, capture_output=True, check=False)
-    except FileNotFoundError:
-        return subprocess.CompletedProcess(words, 127, b"", b"git is not installed")
 
 
 @dataclass(frozen=True)
@@ -66,15 +48,6 @@ class Facts:
     web: str = ""            # the page of the repository
 
 
-def find_top(folder: Path) -> Path | None:
-    """The top of the working tree around a folder; None where there is no repository."""
-    answer = ask(folder, "rev-parse", "--show-toplevel")
-    if b"dubious ownership" in answer.stderr:
-        raise Problem(f"{folder}: the repository belongs to somebody else, so git reads nothing of it: "
-                      f"git config --global --add safe.directory '{folder}'")
-    return Path(os.fsdecode(answer.stdout.removesuffix(b"\n"))) if answer.stdout.strip() else None
-
-
 def find_project(start: Path, top: Path) -> Path:
     """The nearest folder from `start` up to the repository's top that has workflows; the top where none has."""
     start, top = start.resolve(), top.resolve()
@@ -84,7 +57,7 @@ def find_project(start: Path, top: Path) -> Path:
 
 def read_facts(top: Path, repository: bool, nested: bool = False) -> Facts:
     """The facts of the working tree with that top."""
-    actor, mail = git(top, "config", "github.user") or os.environ.get("USER") or "user", git(top, "config", "user.email") or ""
+    actor, mail = setting(top, "github.user") or os.environ.get("USER") or "user", setting(top, "user.email")
     if not repository:
         return Facts(top, actor, mail)
     branch = git(top, "symbolic-ref", "--quiet", "--short", "HEAD") or ""
@@ -95,7 +68,7 @@ def read_facts(top: Path, repository: bool, nested: bool = False) -> Facts:
     of_origin = next((target.removeprefix("refs/remotes/origin/") for _, name, target in rows if name == "refs/remotes/origin/HEAD"), "")
     # the remote `origin`, else that of the branch, else the first one
     remotes = (git(top, "remote") or "").splitlines()
-    wanted = ["origin", git(top, "config", f"branch.{branch}.remote") if branch else None, *remotes]
+    wanted = ["origin", setting(top, f"branch.{branch}.remote") if branch else None, *remotes]
     remote = next((name for name in wanted if name in remotes), None)
     server, owner, name = parse_remote((git(top, "remote", "get-url", remote) if remote else None) or "")
     return Facts(
@@ -121,9 +94,21 @@ def cache_root() -> Path:
     return Path(os.environ.get("XDG_CACHE_HOME") or Path.home() / ".cache").absolute() / "actrun"
 
 
+def make_root() -> Path:
+    """The folder that holds everything `try` keeps, made for its owner alone, whatever made it before."""
+    root = cache_root()
+    root.mkdir(mode=0o700, parents=True, exist_ok=True)
+    try:
+        if root.stat().st_mode & 0o077:
+            root.chmod(0o700)
+    except PermissionError:
+        raise Problem(f"{root}: this folder belongs to somebody else: name another place by the variable XDG_CACHE_HOME", 3) from None
+    return root
+
+
 def kept_for(top: Path, kind: str) -> Path:
     """The place of something that is kept for one repository."""
-    place = cache_root() / kind / f"{short_name(top.name)}-{hashlib.sha256(os.fsencode(top)).hexdigest()[:12]}"
+    place = make_root() / kind / f"{short_name(top.name)}-{hashlib.sha256(os.fsencode(top)).hexdigest()[:12]}"
     place.parent.mkdir(parents=True, exist_ok=True)
     return place
 
@@ -141,6 +126,9 @@ class Room:
         self.tree = self.play / "tree" / self.name   # the copy of the working tree, or a link to it, in a folder of its own as on GitHub
         self.private = self.folder / "private"
         self.objects = self.folder / "objects"       # links to the folders in which the repository keeps its objects
+        self.source = self.folder / "source" / self.name  # what actions/checkout reads, which steps cannot write
+        self.files = self.tree                       # where the copy of the working tree is: there or in `source`
+        self.identity = files.identity(self.folder) if self.folder.exists() else None
 
 
 def make_room(parent: Path, name: str, keep: Path | None = None) -> Room:
@@ -148,16 +136,30 @@ def make_room(parent: Path, name: str, keep: Path | None = None) -> Room:
     folder = keep.absolute() if keep else parent / f"{short_name(name)}-{time.strftime('%Y%m%d-%H%M%S')}-{secrets.token_hex(3)}"
     if folder.exists() and (not folder.is_dir() or any(folder.iterdir())):
         raise Problem(f"--keep {keep}: this is there already and not empty: name a new folder")
-    if not keep:
-        cache_root().mkdir(mode=0o700, parents=True, exist_ok=True)
+    make_root()
+    if keep:
+        return fill_room(folder, short_name(name), 0)
+    parent.mkdir(parents=True, exist_ok=True)
+    with keeping.held(parent):
+        return fill_room(folder, short_name(name), keeping.next_number(parent))
+
+
+def fill_room(folder: Path, name: str, number: int) -> Room:
+    """Makes the folders of an execution, and locks them. Where that fails, nothing is left."""
     folder.mkdir(mode=0o700, parents=True, exist_ok=True)
-    folder.chmod(0o700)
-    folder = folder.resolve()
-    for part in FOLDERS:
-        (folder / part).mkdir(mode=0o700)
-    lock = open(folder / "lock", "w", encoding="utf-8")
-    fcntl.flock(lock, fcntl.LOCK_EX | fcntl.LOCK_NB)
-    return Room(folder, short_name(name), lock)
+    try:
+        folder.chmod(0o700)
+        folder = folder.resolve()
+        for part in FOLDERS:
+            (folder / part).mkdir(mode=0o700)
+        lock = open(folder / "lock", "w", encoding="ascii")
+        fcntl.flock(lock, fcntl.LOCK_EX | fcntl.LOCK_NB)
+        lock.write(f"{number}\n")
+        lock.flush()
+    except OSError:
+        remove(folder)
+        raise
+    return Room(folder, name, lock)
 
 
 def short_name(name: str) -> str:
@@ -165,29 +167,22 @@ def short_name(name: str) -> str:
     return re.sub(r"[^A-Za-z0-9._-]+", "_", name)[:40].strip("._-") or "tree"
 
 
-def clean(parent: Path, kept: int = KEPT) -> None:
-    """Removes all but the last work folders that no execution uses."""
-    folders = [entry for entry in parent.glob("*") if entry.is_dir() and not entry.is_symlink()]
-    for folder in sorted(folders, key=lambda entry: entry.stat().st_mtime, reverse=True)[kept:]:
-        try:
-            with open(folder / "lock", "a", encoding="utf-8") as lock:
-                fcntl.flock(lock, fcntl.LOCK_EX | fcntl.LOCK_NB)
-                remove(folder)
-        except OSError:
-            continue
+def clean(parent: Path, own: Path) -> None:
+    """Removes old work folders that no execution uses: never `own`, nor one that ended within the hour."""
+    with contextlib.suppress(OSError):
+        for folder, lock in keeping.choose_old(parent, own):
+            with lock:
+                remove(folder, files.identity(folder))
 
 
-def remove(folder: Path) -> None:
+def remove(folder: Path, known: tuple[int, int] | None = None) -> None:
     """Removes a folder, also where steps left folders in it that cannot be written."""
-    shutil.rmtree(folder, ignore_errors=True)
-    if folder.exists():
-        subprocess.run(["chmod", "-R", "u+rwX", "--", folder], capture_output=True, check=False)
-        shutil.rmtree(folder, ignore_errors=True)
+    files.remove(folder, known)
 
 
-def copy_tree(facts: Facts, room: Room, in_place: bool = False) -> list[str]:
+def copy_tree(facts: Facts, room: Room, in_place: bool = False, named: tuple[Path, ...] = ()) -> list[str]:
     """Copies the working tree into the room, with links, modes and times, and gives what was left out, a sentence each.
-    With `in_place` a link to it is made."""
+    With `in_place` a link to it is made. `named` are places of --bind."""
     left: list[str] = []
     if in_place and os.fsencode(facts.top).decode("utf-8", "replace") != str(facts.top):
         raise Problem(f"--in-place {facts.top}: the program takes names in UTF-8 alone: leave --in-place out")
@@ -196,27 +191,37 @@ def copy_tree(facts: Facts, room: Room, in_place: bool = False) -> list[str]:
         return left
     if not facts.repository and facts.top in (Path.home(), Path("/")):
         raise Problem(f"{facts.top} is no repository, and too much to copy: name a folder by --directory DIR")
-    room.tree.mkdir()
+    for folder in {room.tree, room.files}:
+        folder.mkdir(parents=True)
     if not facts.repository:
-        copy(facts.top, ["cp", "-a", "--reflink=auto", "--", "./.", room.tree])
+        copy(facts.top, ["cp", "-a", "--reflink=auto", "--", "./.", room.files])
         return left
     names = b"".join(b"./" + name + b"\0" for name in files_of(facts.top, left))
     if facts.nested:
         left.append("the history: the folder is a part of a repository, so git knows no commit in the copy")
     else:
-        copy_repository(facts.top, room)
-    copy(facts.top, ["xargs", "-0", "-r", "cp", "-d", "--reflink=auto", "--preserve=mode,timestamps", "--parents", "-t", room.tree, "--"], names)
+        copy_repository(facts.top, room, named)
+    copy(facts.top, ["xargs", "-0", "-r", "cp", "-d", "--reflink=auto", "--preserve=mode,timestamps", "--parents", "-t", room.files, "--"], names)
     return left
 
 
 def copy(top: Path, words: list[str | Path], names: bytes = b"") -> None:
     """Executes a command that copies files of a folder; blocks are shared where the file system can."""
+    words = [of_system(word, top) if word in ("cp", "xargs") else word for word in words]
     answer = subprocess.run(words, cwd=top, input=names, capture_output=True, check=False, env={**os.environ, "LC_ALL": "C"})
-    text = answer.stderr.decode("utf-8", "replace").strip()
-    if "No space left" in text:
-        raise OSError(errno.ENOSPC, os.strerror(errno.ENOSPC), os.fspath(cache_root()))
+    text = check_room(answer)
     if answer.returncode != 0:
         raise Problem(f"the working tree {top} cannot be copied: {text.partition(chr(10))[0]}: change the rights, or name the file in .gitignore", 3)
+
+
+def check_room(answer: subprocess.CompletedProcess[bytes]) -> str:
+    """What a command said on standard error. Raises OSError where the cache has no room for what it writes."""
+    text = answer.stderr.decode("utf-8", "replace").strip()
+    known = (errno.ENOSPC, errno.EDQUOT) if answer.returncode else ()
+    number = next((number for number in known if os.strerror(number) in text), 0)
+    if number:
+        raise OSError(number, os.strerror(number), os.fspath(cache_root()))
+    return text
 
 
 def files_of(top: Path, left: list[str], prefix: bytes = b"") -> Iterator[bytes]:
@@ -231,25 +236,37 @@ def files_of(top: Path, left: list[str], prefix: bytes = b"") -> Iterator[bytes]
         if name.endswith(b"/"):
             left.append(f"{os.fsdecode(prefix + name)} is a repository of its own that git does not track")
         elif os.path.isdir(path) and not os.path.islink(path):
-            if os.path.exists(os.path.join(path, b".git")):
-                yield from files_of(Path(os.fsdecode(path)), left, prefix + name + b"/")
+            if os.path.lexists(os.path.join(path, b".git")):
+                yield from files_of_module(Path(os.fsdecode(path)), left, prefix + name + b"/")
         elif os.path.lexists(path) and real(os.path.dirname(path)):  # (behind a link git tracks nothing)
-            yield prefix + name
+            if os.path.islink(path) or os.path.isfile(path):
+                yield prefix + name
+            else:
+                left.append(f"{os.fsdecode(prefix + name)} is no plain file")
 
 
-def copy_repository(top: Path, room: Room) -> None:
+def files_of_module(top: Path, left: list[str], prefix: bytes) -> Iterator[bytes]:
+    """The names of the files of a submodule, if its repository says that the folder is its own."""
+    try:
+        check(top)
+    except Problem as problem:
+        left.append(str(problem))
+        return
+    yield from files_of(top, left, prefix)
+
+
+def copy_repository(top: Path, room: Room, named: tuple[Path, ...] = ()) -> None:
     """Makes the copy a repository at the same commit. It reads the objects through links in the room, and can write none of them.
-    Of the configuration it has the remotes without passwords, and how files are compared."""
-    form, folder = git(top, "rev-parse", "--show-object-format") or "sha1", room.tree / ".git"
-    ask(room.tree, "-c", "init.defaultRefFormat=files", "init", "-q", "--template=", *([f"--object-format={form}"] if form != "sha1" else []))
+    Of the configuration it has the remotes without passwords, and how files are compared. `named` are places of --bind."""
+    form, folder = git(top, "rev-parse", "--show-object-format") or "sha1", room.files / ".git"
+    check_room(make(room.files, *([f"--object-format={form}"] if form != "sha1" else [])))
     names = ("objects", "HEAD", "packed-refs", "refs", "index", "shallow", "info")
     found = git(top, "rev-parse", *(word for name in names for word in ("--git-path", name)), "--shared-index-path") or ""
     objects, *paths = [top / name for name in found.split("\n") if name]
     copy(top, ["cp", "-a", "--", *(path for path in paths if path.exists()), folder])
     room.objects.mkdir()
-    more = objects / "info" / "alternates"
-    inherited = os.fsdecode(more.read_bytes()).splitlines() if more.is_file() else []
-    for number, path in enumerate((objects, *(objects / line for line in inherited))):
+    inherited = alternates(objects, (top, *folders(top), *named))
+    for number, path in enumerate((objects, *inherited)):
         (room.objects / str(number)).symlink_to(path.resolve())
     links = "".join(f"{link}\n" for link in room.objects.iterdir())
     (folder / "objects" / "info" / "alternates").write_text(links, encoding="utf-8")
@@ -258,8 +275,22 @@ def copy_repository(top: Path, room: Room) -> None:
 
 def write_config(top: Path, file: Path) -> None:
     """Adds the remotes without passwords to the configuration of the copy, how files are compared, and nothing else of the user's."""
-    settings = ["core.checkStat\nminimal", "core.trustctime\nfalse", "gc.auto\n0"]
-    kept = r"^(core\.(autocrlf|eol|filemode|symlinks|ignorecase)|remote\..*\.(url|fetch))$"
-    for entry in (*settings, *(git(top, "config", "-z", "--get-regexp", kept) or "").split("\0")[:-1]):
-        key, _, value = entry.partition("\n")
-        ask(top, "config", "--file", os.fspath(file), "--add", key, re.sub(r"^([a-z+]+://)[^/]*@", r"\1", value))
+    entries = [("core.checkstat", "minimal"), ("core.trustctime", "false"), ("gc.auto", "0")]
+    kept = r"core\.(autocrlf|eol|filemode|symlinks|ignorecase)|remote\.[^\n]*\.(url|fetch)"
+    entries += [entry for entry in settings(top) if re.fullmatch(kept, entry[0])]
+    before = ""
+    with open(file, "a", encoding="utf-8", errors="surrogateescape") as text:
+        for key, value in entries:
+            section, _, rest = key.partition(".")
+            below, _, name = rest.rpartition(".")
+            head = f"[{section} {quoted(below)}]" if below else f"[{section}]"
+            value = re.sub(r"^([a-z+]+://)[^/]*@", r"\1", value)
+            value = value if re.fullmatch(r"[\w:/.@+*-]+", value) else quoted(value)
+            text.write((head + "\n") * (head != before) + f"\t{name} = {value}\n")
+            before = head
+
+
+def quoted(text: str) -> str:
+    """A text in quotes, for a configuration of git."""
+    text = text.replace("\\", "\\\\").replace('"', '\\"').replace("\n", "\\n")
+    return f'"{text}"'

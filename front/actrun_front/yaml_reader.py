@@ -18,6 +18,7 @@ DEEPEST = 127
 GREATEST = 9007199254740991
 MOST_REPORTED = 20
 MOST_PLACES = 200_000  # as many values as a workflow may have, once its aliases are written out
+MOST_BYTES = 10_000_000
 TAG = "tag:yaml.org,2002:"
 CORE = re.compile(r"""(?P<null>~|null|Null|NULL|) | (?P<bool>true|True|TRUE|false|False|FALSE)
     | (?P<int>[-+]?[0-9]+|0o[0-7]+|0x[0-9a-fA-F]+) | (?P<float>[-+]?(?:\.[0-9]+|[0-9]+(?:\.[0-9]*)?)(?:[eE][-+]?[0-9]+)?)
@@ -36,6 +37,11 @@ class Note(NamedTuple):
     text: str
 
 
+class Number(str):
+    """A number that is no whole number, by its text in YAML, and what was said of it."""
+    note: Any = None
+
+
 class Refused(Exception):
     """A workflow cannot be used: the line of its file, and a sentence with the remedy."""
 
@@ -51,8 +57,11 @@ class Mark(NamedTuple):
 
 
 class Node:
-    """What lists and maps of YAML have besides their members: a mark, and the marks of keys and places."""
+    """What lists and maps of YAML have next to their members: a mark, and the marks of keys and places."""
     known_as = ""  # of a job GITHUB_JOB, of a step GITHUB_ACTION
+    user: Any = None  # of a step or job that the front made: the one that used an action or called a workflow
+    written = ""  # and its condition in that file
+    inside = ""  # and of a job its id there
 
     def __init__(self, inner: Any = (), mark: Mark = Mark(1)):
         super().__init__(inner)
@@ -109,12 +118,28 @@ def copied(tree: Any, change: Callable[[Mark], Mark] = lambda mark: mark) -> Any
     inner = [(key, copied(one, change)) for key, one in members(tree)]
     made = Map(inner, change(tree.mark)) if isinstance(tree, dict) else Sequence([one for _, one in inner], change(tree.mark))
     made.marks = {key: change(mark) for key, mark in tree.marks.items()}
+    made.user, made.written, made.inside = tree.user, tree.written, tree.inside
     return made
 
 
 def text_of(value: Any) -> str:
     """The JSON of a value."""
     return json.dumps(value, ensure_ascii=False, separators=(",", ":"))
+
+
+def beginning(value: Any) -> str:
+    """The JSON of a value, or a beginning of it that is too long for a line: with aliases the whole can be enormous."""
+    text = ""
+    for part in json.JSONEncoder(ensure_ascii=False, separators=(",", ":")).iterencode(value):
+        text += part
+        if len(text) > 100:
+            break
+    return text
+
+
+def number_text(text: str) -> str:
+    """What GitHub prints of a number."""
+    return format(float(text), ".15g").replace("e", "E").replace("inf", "infinity")
 
 
 def short(text: str) -> str:
@@ -142,6 +167,7 @@ class Reader:
         self.notes: List[Note] = []
         self.anchors: Dict[str, Any] = {}
         self.line = 1
+        self.count = 0  # of values, those that `<<` brings too
 
     def document(self) -> Any:
         """The value of the text."""
@@ -169,9 +195,16 @@ class Reader:
         """Keeps a fault, after which the rest can still be read."""
         self.faults.append(Note(line or self.line, text))
 
+    def add(self, number: int = 1) -> None:
+        """Counts values. Raises Refused where there are too many."""
+        self.count += number
+        if self.count > MOST_PLACES:
+            raise Refused(self.line, f"the file has more than {MOST_PLACES} values once its `<<` are written out")
+
     def node(self, event: Any) -> Any:
         """The value that begins with an event."""
         name = event.anchor
+        self.add()
         if isinstance(event, self.kinds.AliasEvent):
             if self.anchors.get(name, self) is self:
                 raise Refused(self.line, f"the alias *{short(name)} " + ("is inside the value that it names" if name in self.anchors
@@ -201,8 +234,9 @@ class Reader:
         for start in self.inside():
             line, key = self.line, self.node(start)
             if not isinstance(key, str):
-                self.refuse(f"a key must be a text, and this one is {short(text_of(key))}; write a number or the like in quotes", line)
-                key = text_of(key)
+                text = beginning(key)
+                self.refuse(f"a key must be a text, and this one is {short(text)}; write a number or the like in quotes", line)
+                key = text
             elif key in seen:
                 self.refuse(f"the key {text_of(short(key))} is twice in one map", line)
             seen.add(key)
@@ -213,9 +247,11 @@ class Reader:
                     raise Refused(line, "the value of << must be a map or a list of maps")
             else:
                 made[key], made.marks[key] = inner, Mark(line)
-        for key, one in [(key, one) for one in merged for key in one]:
-            if key not in made:
-                made[key], made.marks[key] = one[key], one.marks[key]
+        for one in merged:
+            self.add(len(one))
+            for key in one:
+                if key not in made:
+                    made[key], made.marks[key] = one[key], one.marks[key]
         return made
 
     def scalar(self, event: Any) -> Any:
@@ -229,14 +265,15 @@ class Reader:
             try:  # joins the halves of characters, as `\ud83d\ude00`
                 return text.encode("utf-16-le", "surrogatepass").decode("utf-16-le")
             except UnicodeDecodeError:
-                self.refuse("a text has half a character")
+                self.refuse("a string has an unpaired surrogate")
                 return ""
         value = plain_value(text)
         if value == text and text[1:2] not in ("o", "x"):
-            number = format(float(text), ".15g").replace("e", "E").replace("inf", "infinity")
+            number, value = number_text(text), Number(text)
             if number != text:
-                self.notes.append(Note(self.line, f"GitHub reads {short(text)} as the number {number}, but here it stays {short(text)}; "
-                                                  "write the one you mean in quotes"))
+                value.note = Note(self.line, f"GitHub reads {short(text)} as the number {number}, but here it stays {short(text)}; "
+                                             "write the one you mean in quotes")
+                self.notes.append(value.note)
         return value
 
     def check_tag(self, event: Any, kind: str) -> None:
@@ -249,6 +286,8 @@ class Reader:
 def read_document(data: bytes) -> Document:
     """The document of a file's bytes. Faults say why there is no value; notes say where GitHub reads another value."""
     from ruamel.yaml.reader import ReaderError
+    if len(data) > MOST_BYTES:
+        return Document(faults=[Note(1, f"the file has more than {MOST_BYTES // 1_000_000} MB")])
     text = data.decode("utf-8-sig", "replace")
     reader, document = Reader(text), Document()
     try:

@@ -62,8 +62,9 @@ class Contexts(LowerCase):
         self.assertEqual(self.step("run: \"${{ hashFiles('/w/a.lock') }}\"")["run"], "9c64071fc196d33fec0036f48898b7ff2cf8398b892ead8afce6e9568f7fb6de")
 
     def test_fractions(self):
-        self.assertEqual(self.step("run: x, if: matrix.v == 3.10")["if"], "matrix.v == '3.10'")
-        self.assertEqual(self.note(), "the number 3.10 is compared as a text: actrun has whole numbers only")
+        self.assertEqual(self.step("run: x, if: matrix.v == 3.10")["if"], "(format('{0}', matrix.v) == '3.1' || matrix.v == 0 && false)")
+        self.assertEqual(self.note(), "`matrix.v == 3.10` compares numbers with fractions: (format('{0}', matrix.v) == '3.1' || matrix.v == 0 && "
+                                      "false) takes its place")
 
     def test_container_and_services(self):
         job = self.job("container: x, services: {db: {image: y}}, steps: []")
@@ -198,32 +199,36 @@ class Shells(LowerCase):
     def test_options(self):
         show = "echo \"${-//[hB]/} $(set -o | sed -n '/pipefail.*on/s/ .*//p')\""
         shells = (("bash -e {0}", "e "), ("bash {0}", " "), ("bash -l {0}", " "), ("bash --noprofile --norc -eo pipefail {0}", "e pipefail"),
-                  ("/bin/bash -euxo pipefail {0}", "eux pipefail"), ("bash --login -ei {0}", "e "), ("bash -o errexit -o pipefail {0}", "e pipefail"),
+                  ("/bin/bash -euxo pipefail {0}", "eux pipefail"), ("bash --login -e {0}", "e "), ("bash -o errexit -o pipefail {0}", "e pipefail"),
                   ("bash -c '. {0}'", "c "))
-        self.job("    steps:\n" + "".join(f"      - {{shell: \"{shell}\", run: '{show.replace(chr(39), chr(39) * 2)}'}}\n" for shell, _ in shells)
+        self.job("    env: {HOME: /nonexistent}\n    steps:\n"
+                 + "".join(f"      - {{shell: \"{shell}\", run: '{show.replace(chr(39), chr(39) * 2)}'}}\n" for shell, _ in shells)
                  + "      - {shell: 'sh -u {0}', run: 'echo $-'}\n      - {shell: 'sed s/a/b/ {0}', run: a}\n")
         printed = [line for line in self.run_plan() if not line.startswith("+")]
         self.assertEqual(printed, [wanted for _, wanted in shells] + ["u", "b"])
-        self.assertIn((6, "the shell bash -l {0} is started by bash; files of a login or interactive shell are not read"), self.notes())
+        self.assertIn((7, "the shell bash -l {0} is started by bash"), self.notes())
         self.assertEqual(self.lowered.value["jobs"]["a"]["steps"][-1]["name"], "a")
 
     @needs_program
     def test_others(self):
-        self.job("    strategy: {fail-fast: false, matrix: {shell: [pwsh, cmd, 'msys2 {0}', bash -e, none -x]}}\n"
+        self.job("    strategy: {fail-fast: false, matrix: {shell: [cmd, 'nosh {0}', bash -e, none -x]}}\n"
                  "    steps:\n      - {run: Get-Item, name: n, shell: '${{ matrix.shell }}'}\n")
-        self.assertEqual(self.run_plan(status=1), [f"error: the shell {shell} is not supported here; use bash, sh or python"
-                                                   for shell in ("pwsh", "cmd", "msys2 {0}", "bash -e", "none -x")])
-        step = self.step("run: Get-Item, name: n, shell: pwsh")
-        self.assertEqual((step["name"], step["shell"], self.note()), ("n", "bash", "the shell pwsh is not supported: the step fails and says so"))
+        printed = [f"error: the shell {shell} is not supported here; use bash, sh or python" for shell in ("cmd", "bash -e", "none -x")]
+        missing = "error: the program {0} of the shell {1} is not installed here; install it, or use bash, sh or python"
+        self.assertEqual(sorted(self.run_plan(status=1)), sorted([*printed, missing.format("nosh", "nosh {0}")]))
+        step = self.step("run: Get-Item, name: n, shell: cmd")
+        self.assertEqual((step["name"], step["shell"], self.note()), ("n", "bash", "the shell cmd is not supported: the step fails and says so"))
+        self.step("run: Get-Item, shell: 'nosh {0}'")
+        self.assertEqual(self.note(), "the shell nosh {0} needs nosh, which is not installed here: the step fails and says so")
 
     def test_defaults(self):
-        flow = self.lower("on: push\ndefaults: {run: {shell: pwsh, working-directory: d}}\n"
+        flow = self.lower("on: push\ndefaults: {run: {shell: cmd, working-directory: d}}\n"
                           "jobs: {a: {steps: [{run: x}, {run: y, shell: sh}]}, b: {defaults: {run: {shell: bash}}, steps: [{run: x}]}}")
         self.assertEqual(flow["defaults"], {"run": {"working-directory": "d"}})
-        self.assertEqual(flow["jobs"]["a"]["steps"][0]["env"]["ACTRUN_SHELL"], "pwsh")
+        self.assertEqual(flow["jobs"]["a"]["steps"][0]["env"]["ACTRUN_SHELL"], "cmd")
         self.assertEqual(flow["jobs"]["a"]["steps"][1]["run"], "y")
         self.assertEqual(flow["jobs"]["b"]["steps"][0]["run"], "x")
-        self.assertEqual(self.notes(), [(2, "the shell pwsh is not supported: the step fails and says so")])
+        self.assertEqual(self.notes(), [(2, "the shell cmd is not supported: the step fails and says so")])
 
     @needs_program
     def test_python(self):
@@ -243,12 +248,12 @@ class Shells(LowerCase):
     @needs_program
     def test_shell_of_the_matrix(self):
         self.job("""\
-    strategy: {fail-fast: false, matrix: {shell: [bash, sh, fish]}}
+    strategy: {fail-fast: false, matrix: {shell: [bash, sh, cmd]}}
     steps:
       - run: echo "${{ matrix.shell }}"
         shell: ${{ matrix.shell }}
 """)
-        self.assertEqual(self.run_plan(status=1), ["bash", "sh", "error: the shell fish is not supported here; use bash, sh or python"])
+        self.assertEqual(self.run_plan(status=1), ["bash", "sh", "error: the shell cmd is not supported here; use bash, sh or python"])
 
     def test_first_words_of_sh(self):
         job = self.job("defaults: {run: {shell: sh}}, steps: [{run: x}, {run: y, shell: bash}, {run: z, timeout-minutes: 1}]", sh_line=". p; ")
