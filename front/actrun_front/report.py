@@ -8,31 +8,48 @@ import html
 import json
 import os
 import pathlib
+import shlex
 import subprocess
 import sys
 from typing import Any
 
 from . import Problem
-from .dap_logs import plan_masks
+from .dap_logs import Masks, plan_masks
 from .dap_record import Record, refused
-from .report_data import CONTROL, Boards, Reasons, answer, job_results, read_logs, read_times
+from .present import as_text
+from .report_data import CONTROL, Boards, read_logs, read_times
+from .report_reasons import answer, marks, reasons
 
 HERE = pathlib.Path(__file__).resolve().parent
+# the files of the script, in the order in which they are executed
+SCRIPTS = ("report_board", "report_chart", "report_details", "report_search", "report")
 ANSWERS = {"not-started": "not started", "bad-output": "bad output"}
 
 
 def page(program: str, record: pathlib.Path, **options: Any) -> str:
-    """The page of a record. Options are `logs`, `times` (paths), `around` (a place) and `seconds` for reasons."""
-    data = json.dumps(shown(program, record, **options), ensure_ascii=False, separators=(",", ":")).replace("<", "\\u003c")
-    style, script = ((HERE / f"report.{kind}").read_text(encoding="utf-8") for kind in ("css", "js"))
+    """The page of a record. Options are `logs`, `times` (paths), `around` (a place) and `asked`."""
+    return page_of(shown(program, record, **options))
+
+
+def page_of(found: dict[str, Any]) -> str:
+    """The page that shows what was found."""
+    data = json.dumps(found, ensure_ascii=False, separators=(",", ":")).replace("<", "\\u003c")
+    style, script = (HERE / "report.css").read_text(encoding="utf-8"), script_of()
     rules = "; ".join(["default-src 'none'", f"script-src '{digest(script)}'", f"style-src '{digest(style)}'", "base-uri 'none'",
                        "form-action 'none'"])
-    parts = {"RULES": html.escape(rules), "TITLE": html.escape(record.name.translate(CONTROL)), "STYLE": style, "DATA": data, "SCRIPT": script}
+    parts = {"RULES": html.escape(rules), "TITLE": html.escape(found["title"]), "STYLE": style, "DATA": data,
+             "SCRIPT": script}
     text, rest = "", (HERE / "report.html").read_text(encoding="utf-8")
     for name, part in parts.items():
         before, _, rest = rest.partition(f"@{name}@")
         text += before + part
     return text + rest
+
+
+def script_of() -> str:
+    """The script of the page: its files share one scope, which nothing outside sees."""
+    inner = "".join((HERE / f"{name}.js").read_text(encoding="utf-8") for name in SCRIPTS)
+    return f"\n'use strict';\n(() => {{\n{inner}}})();\n"
 
 
 def digest(text: str) -> str:
@@ -41,37 +58,62 @@ def digest(text: str) -> str:
 
 
 def shown(program: str, path: pathlib.Path, logs: pathlib.Path | None = None, times: pathlib.Path | None = None,
-          around: int | None = None, seconds: float = 60, asked: dict[str, Any] | None = None) -> dict[str, Any]:
-    """What the page's script reads. `asked` has what `why` and `timeline` are answering; then nothing is asked of what succeeded."""
-    record = read_record(program, path)
-    masks = plan_masks(record.plan)
+          around: int | None = None, asked: dict[str, Any] | None = None) -> dict[str, Any]:
+    """What the page's script reads. The program is started once for each of `replay`, `why` and `timeline`;
+    `asked` has what the last two are answering."""
+    record, masks = read_record(program, path)
     clock = read_times(times, record.last) if times else None
     boards = Boards(program, path, masks, record.last, around)
-    why, chart = (asked[command].result().stdout if asked else answer(seconds, program, command, path) for command in ("why", "timeline"))
-    states, reasons = last_states(boards), Reasons(program, path)
-    good = [words for words, state in states.items() if state.endswith(("success", "open"))]
-    reasons.read(why, sorted(states.keys() - set(good), reverse=True), good if not asked else [], seconds)
+    states = last_states(boards)
+    why, chart = (answer(program, command, path, asked) for command in ("why", "timeline"))
+    ended = marks(chart)
     failed = {"-".join(words.split()[1:]) for words, state in states.items() if state == "failure"}
     hide = masks.hide
+    repository = hide(repository_of(record.plan)).translate(CONTROL)
     return {
-        "record": hide(path.name).translate(CONTROL), "total": record.last, "first": boards.first, "last": boards.last, "around": around,
+        "title": titled(hide(title_of(record.plan, states)), repository),
+        "record": hide(shlex.quote(str(path))).translate(CONTROL), "repository": repository, "around": around,
+        "total": record.last, "first": boards.first, "last": boards.last,
         "runs": hide(parts(record)), "texts": boards.texts.texts, "base": boards.base, "steps": boards.steps,
-        "entries": entries(record)[boards.first:boards.last + 1], "jobs": job_results(chart),
-        "why": {key: hide(text) for key, text in reasons.found.items()},
+        "entries": entries(record)[boards.first:boards.last + 1],
+        "jobs": ended.jobs, "displaced": ended.displaced,
+        "why": {key: hide(text) for key, text in reasons(why, record).items()},
         "logs": read_logs(record, logs, masks, failed) if logs else None,
         "times": clock and {**clock, "entries": [0, *clock["entries"]][boards.first:boards.last + 1]},
     }
 
 
-def read_record(program: str, path: pathlib.Path) -> Record:
-    """The record of a file, which `replay` checks later."""
+def titled(results: str, repository: str) -> str:
+    """The title of the page."""
+    return (f"{results} \u00b7 {repository}" if repository else results).translate(CONTROL)
+
+
+def title_of(plan: dict[str, Any], states: dict[str, str]) -> str:
+    """The workflows with their results."""
+    results = []
+    for number, run in enumerate(plan["runs"]):
+        state = states[f"run {number}"].removeprefix("closed ")
+        results.append(f"{run['flow']}: {state.partition(' ')[0]}")
+    return ", ".join(results[:3] + ([f"{len(results) - 3} more"] if len(results) > 3 else []))
+
+
+def repository_of(plan: dict[str, Any]) -> str:
+    """The repository that the first run names."""
+    github = plan["runs"][0]["roots"]["github"] if plan["runs"] else None
+    found = github.get("repository") if isinstance(github, dict) else None
+    return found if isinstance(found, str) else ""
+
+
+def read_record(program: str, path: pathlib.Path) -> tuple[Record, Masks]:
+    """The record of a file, which `replay` checks later, and its masks."""
     if path.exists() and not path.is_file() and not path.is_dir():
         raise Problem(f"{path}: this is no regular file, and the record is read several times: write it into a file")
     try:
-        return Record(program, path.read_bytes())
+        record = Record(program, path.read_bytes())
+        return record, plan_masks(record.plan)
     except OSError as fault:
         raise Problem(f"{path}: {fault.strerror}: name a file that `actrun run --record` or `try` wrote") from None
-    except (ValueError, KeyError, TypeError, IndexError):
+    except (ValueError, KeyError, TypeError, IndexError, AttributeError, RecursionError):
         done = subprocess.run([program, "replay", path], stdout=subprocess.DEVNULL, stderr=subprocess.PIPE, check=False)
         line = done.stderr.decode("utf-8", "replace").strip()
         raise refused(path, line or "this is no record: name a file that `actrun run --record` or `try` wrote") from None
@@ -82,10 +124,17 @@ def parts(record: Record) -> list:
     def inner(*words: Any) -> str:
         return record.name(*words).partition(" (")[2][:-1]
     return [[inner("run", number), [
-        [inner("job", job["number"]), [inner("leg", leg) for leg in record.legs_of[job["number"]]],
+        [inner("job", job["number"]),
+         [[inner("leg", leg), values(record, leg)] for leg in record.legs_of[job["number"]]],
          [[inner("step", record.legs_of[job["number"]][0], at), step["condition"] or "",
            (step["work"].get("run") or step["work"].get("uses", "")).translate(CONTROL)] for at, step in enumerate(job["steps"])]]
         for job in run["jobs"]]] for number, run in enumerate(record.plan["runs"])]
+
+
+def values(record: Record, leg: int) -> list[list[str]]:
+    """The matrix of a leg, names and values."""
+    pairs = record.legs[leg].values.items()
+    return [[name.translate(CONTROL), as_text(value).translate(CONTROL)] for name, value in pairs]
 
 
 def entries(record: Record) -> list[list]:
@@ -111,13 +160,15 @@ def last_states(boards: Boards) -> dict[str, str]:
     return found
 
 
-def beside(record: pathlib.Path, logs: pathlib.Path, times: pathlib.Path, asked: dict[str, Any], seconds: float = 5) -> pathlib.Path | None:
+def beside(record: pathlib.Path, logs: pathlib.Path, times: pathlib.Path,
+           asked: dict[str, Any]) -> pathlib.Path | None:
     """The page of a record that `try` made, written beside it for its owner alone, without a clock where the times do not fit; None where
     that fails."""
     target = record.with_name("report.html")
     for clock in (times, None):
         try:
-            write(target, page(os.environ["ACTRUN_PROGRAM"], record, logs=logs, times=clock, seconds=seconds, asked=asked), 0o600)
+            text = page(os.environ["ACTRUN_PROGRAM"], record, logs=logs, times=clock, asked=asked)
+            write(target, text, 0o600)
             return target
         except (Problem, OSError, ValueError, KeyError):
             continue
@@ -128,13 +179,6 @@ def write(target: pathlib.Path, text: str, mode: int = 0o666) -> None:
     """Writes a file, which gets a mode where it is new."""
     with open(os.open(target, os.O_WRONLY | os.O_CREAT | os.O_TRUNC, mode), "w", encoding="utf-8", errors="replace", newline="\n") as file:
         file.write(text)
-
-
-def span(text: str) -> float:
-    """The value of --seconds."""
-    if not 0 <= float(text) <= 86_400:
-        raise argparse.ArgumentTypeError(f"{text} is not from 0 to 86400, a day")
-    return float(text)
 
 
 def options(arguments: list[str]) -> argparse.Namespace:
@@ -148,7 +192,6 @@ def options(arguments: list[str]) -> argparse.Namespace:
     reader.add_argument("--logs", metavar="DIR", type=pathlib.Path, help="show the step-L-S.log of this folder, masked")
     reader.add_argument("--times", metavar="FILE", type=pathlib.Path, help="what `run --times` wrote: gives the chart a clock")
     reader.add_argument("--around", metavar="K", type=int, help="of a record of more than 100,000 entries, show the places round K")
-    reader.add_argument("--seconds", metavar="N", type=span, default=60, help="ask for reasons for so long (default: 60)")
     return reader.parse_args(arguments)
 
 
@@ -162,7 +205,7 @@ def main(arguments: list[str]) -> int:
         if not program:
             raise Problem("the variable ACTRUN_PROGRAM names no program: call this by the script `actrun`, which sets it", 3)
         text = page(os.path.abspath(program), pathlib.Path(os.path.abspath(chosen.record)), logs=chosen.logs, times=chosen.times,
-                    around=chosen.around, seconds=chosen.seconds)
+                    around=chosen.around)
         target = chosen.output or chosen.record.with_name(chosen.record.name + ".html")
         write(target, text)
         sys.stdout.reconfigure(errors="surrogateescape")

@@ -1,17 +1,15 @@
-"""What the page of `actrun report` shows of a record: boards by `replay`, reasons by `why`, results of jobs by `timeline`.
+"""What the page of `actrun report` shows of a record: boards by `replay`, logs, times.
 
 A board is kept as blocks: one for each run, job and leg, and one for the ended legs. A block is a list of numbers of texts, its head first.
 """
 from __future__ import annotations
 
-import concurrent.futures
 import contextlib
 import itertools
 import json
 import pathlib
 import re
 import subprocess
-import time
 from dataclasses import dataclass, field
 from typing import Any, Iterator
 
@@ -21,9 +19,6 @@ from .dap_record import PICTURES, Record, refused
 
 MOST = 100_000  # entries of a page
 LOGS = 1 << 20  # characters of logs, at most
-JOB_ENDED = re.compile(r"<title>job (\d+) \(.*\): (success|failure|cancelled|skipped), line (\d+)</title>")
-FACT = re.compile(r"( *)(run|job|leg|step) (\d+) \(")
-VALUE = re.compile(r"(?:step \d+ \w+ \w+|set|out|[^\"{]* group) (.*)")
 TIME = re.compile(rb"[0-9]{1,14}")  # (of 14 digits: in the year 5138)
 COLOURS = re.compile(r"\x1b\[[0-9;]*[A-Za-z]")
 CONTROL = {number: picture for number, picture in PICTURES.items() if number not in (9, 10)}
@@ -45,12 +40,23 @@ class Texts:
 
     def hidden(self, line: str) -> str:
         """The line with the values of its JSON masked; the line itself where nothing is to hide."""
-        found = VALUE.fullmatch(line) if self.masks.pattern else None
-        if not found:
+        begin = value_of(line) if self.masks.pattern else 0
+        if not begin:
             return line
-        value = json.loads(found[1])
+        value = json.loads(line[begin:])
         shown = self.masks.hide(value)
-        return line if shown == value else line[:found.start(1)] + json.dumps(shown, ensure_ascii=False, separators=(",", ":"))
+        if shown == value:
+            return line
+        return line[:begin] + json.dumps(shown, ensure_ascii=False, separators=(",", ":"))
+
+
+def value_of(line: str) -> int:
+    """Where the JSON of a line of a board begins; 0 where it has none."""
+    word = line.partition(" ")[0]
+    if word in ("step", "set", "out"):
+        return len(line) - len(line.split(" ", 4 if word == "step" else 1)[-1])
+    before, found, _ = line.partition(" group ")
+    return len(before + found) if found else 0
 
 
 class Boards:
@@ -87,7 +93,7 @@ class Boards:
         was, block = self.blocks[head], [self.texts.number(line) for line in lines]
         keep = len(was) - 1
         if keep and self.texts.texts[was[-1]].startswith("out "):
-            keep -= 1  # (the outputs of a leg are its last line, and are told whole)
+            keep -= 1  # (the outputs of a leg are its last line, and are shown whole)
         self.blocks[head] = [block[0], *was[1:1 + keep], *block[1:]]
         return [self.ids[head], -1 if block[0] == was[0] else block[0], keep, *block[1:]]
 
@@ -124,64 +130,6 @@ def blocks_of(lines: list[bytes]) -> dict[tuple[bytes, bytes], list[str]]:
     return found
 
 
-@dataclass
-class Reasons:
-    """What `why` says of the parts of a record, each under the words by which it is asked."""
-    program: str
-    record: pathlib.Path
-    found: dict[str, str] = field(default_factory=dict)
-
-    def ask(self, seconds: float, *words: str) -> str:
-        """The text of one answer; nothing where there is no time for it."""
-        return answer(seconds, self.program, "why", self.record, *words).rstrip("\n")
-
-    def read(self, whole: str, bad: list[str], good: list[str], seconds: float) -> None:
-        """The reasons of all that did not succeed: what `why` prints of all, then what is missing there; of the rest for a twentieth of the time."""
-        self.take(whole.rstrip("\n").split("\n"))
-        until = time.monotonic() + seconds / 3
-        self.ask_missing(bad, until, until)
-        self.ask_missing(good, time.monotonic() + seconds / 20, until)
-
-    def ask_missing(self, parts: list[str], begins: float, until: float) -> None:
-        """Asks for the missing reasons of parts, as long as there is time to begin."""
-        missing = [one for one in parts if one not in self.found]
-        with concurrent.futures.ThreadPoolExecutor(4) as pool:
-            asked = pool.map(lambda one: time.monotonic() < begins and self.ask(until - time.monotonic(), *one.split()), missing)
-            self.found.update((one, text) for one, text in zip(missing, asked) if text)
-
-    def take(self, lines: list[str]) -> None:
-        """Keeps each fact of a tree with all that is below it."""
-        above: list[tuple[int, str]] = []
-        for at, line in enumerate(lines):
-            fact = FACT.match(line)
-            if not fact:
-                continue
-            depth = len(fact[1])
-            above = [one for one in above if one[0] < depth]
-            leg = next((number for _, number in reversed(above) if number), "")
-            above.append((depth, fact[3] if fact[2] == "leg" else leg if fact[2] == "step" else ""))
-            key = f"step {leg} {fact[3]}" if fact[2] == "step" else f"{fact[2]} {fact[3]}"
-            if not line.endswith(" (above)") and (fact[2] != "step" or leg):
-                end = next((to for to in range(at + 1, len(lines)) if not lines[to].startswith(" " * (depth + 1))), len(lines))
-                self.found.setdefault(key, "\n".join(one[depth:] for one in lines[at:end]))
-
-
-def answer(seconds: float, *words: Any) -> str:
-    """What a command of the program prints; nothing where it fails or takes longer."""
-    if seconds <= 0:
-        return ""
-    try:
-        done = subprocess.run(words, capture_output=True, check=False, timeout=seconds)
-    except subprocess.TimeoutExpired:
-        return ""
-    return done.stdout.decode("utf-8") if done.returncode in (0, 1, 4) else ""
-
-
-def job_results(chart: str) -> dict[str, list]:
-    """Of each job that ended its result, and the place where it did, by the marks of `timeline`."""
-    return {job: [result, int(line) - 1] for job, result, line in JOB_ENDED.findall(chart)}
-
-
 def read_logs(record: Record, folder: pathlib.Path, masks: Masks, failed: set[str]) -> dict[str, str]:
     """The masked logs of the steps that were called, those of failed steps first; a sentence where a log is left out. A step that was
     running when the record ended has a log where a signal ended the run."""
@@ -212,8 +160,12 @@ def leg_logs(folder: pathlib.Path, leg: int, steps: list[int], masks: Masks) -> 
     """Of each step of a leg what is shown of its log, or why none is, and whether it is a log. `steps` are those that were called."""
     unread = None
     for step, (text, known) in enumerate(shown_logs(folder, leg, masks)):
-        if not (folder / f"step-{leg}-{step}.log").is_file():
-            yield step, f"(there is no file step-{leg}-{step}.log)", False
+        path = folder / f"step-{leg}-{step}.log"
+        if path.is_symlink():
+            known = False
+            yield step, f"(left out: {path.name} is a link)", False
+        elif not path.is_file():
+            yield step, f"(there is no file {path.name})", False
         elif unread is not None:
             yield step, f"(left out: step-{leg}-{unread}.log cannot be read, so what it masks is not known)", False
         else:

@@ -1,6 +1,6 @@
 """Tests of `actrun report`: the page that it writes, in headless Chromium, against what `actrun debug` and `why` print.
 
-Without Chromium, its driver and selenium the browser tests are skipped, but not where ACTRUN_ALL_TESTS is set, as the gate does.
+Tests of what is on it are in test_report_page.py.
 """
 from __future__ import annotations
 
@@ -13,28 +13,17 @@ import shutil
 import subprocess
 import sys
 import tempfile
-import time
 import unittest
 from argparse import Namespace
 from pathlib import Path
-from typing import Any, Callable
 from unittest import mock
 
 from actrun_front import Problem, dap_logs, report, report_data
 from actrun_front.dap_logs import Masks
 
 from .dap_case import EXAMPLES, NEEDS_PROGRAM, PROGRAM, TOP
+from .report_case import NEEDS_BROWSER, STEP_TIME, Browsing, Keys, ReportCase, plan_of, step
 
-sys.path.append("/usr/lib/python3/dist-packages")  # (Debian's selenium, where another Python runs the tests)
-try:
-    from selenium import webdriver
-    from selenium.webdriver.chrome.service import Service
-    from selenium.webdriver.common.keys import Keys
-    WITHOUT = "" if shutil.which("chromium") and shutil.which("chromedriver") else "chromium"
-except ImportError:
-    WITHOUT = "python3-selenium"
-NEEDS_BROWSER = unittest.skipIf(WITHOUT and not os.environ.get("ACTRUN_ALL_TESTS"),
-                                f"{WITHOUT} is missing: apt-get install chromium chromium-driver python3-selenium")
 WALK = """
 const done = arguments[arguments.length - 1], found = [];
 document.querySelector('#boardbox').open = true;
@@ -51,18 +40,6 @@ const back = found.map((it) => it[0]).reverse();
 let same = true;
 for (const board of back) { same = same && document.querySelector('#board').textContent === board; press('ArrowLeft'); }
 done([found, same]);
-"""
-STEP_TIME = """
-const press = (key) => document.dispatchEvent(new KeyboardEvent('keydown', {key, bubbles: true}));
-press('Home');
-const times = [];
-for (let at = 0; at < 60; at++) {
-  const began = performance.now();
-  press(at % 3 ? 'ArrowRight' : 'ArrowLeft');
-  document.body.offsetHeight;
-  times.push(performance.now() - began);
-}
-return times.sort((a, b) => a - b)[30];
 """
 HOSTILE = ["<script>window.bad = 1</script>", "</script><img src=x onerror='window.bad = 1'>", "\"'`&lt;<!--", "a\u0007b\u001b[31m\ttab",
            "x\u202etxt.exe\u2066y", "-->]]>\\u003c/script>"]
@@ -92,60 +69,14 @@ def rows_of(board: str, plan: dict) -> list[str]:
     return found
 
 
-def work(script: str) -> dict:
-    return {"dir": None, "kind": "run", "run": script, "shell": "default"}
-
-
-def step(name: str, script: str = "true") -> dict:
-    return {"condition": None, "env": {}, "id": None, "name": name, "tolerate": False, "work": work(script)}
-
-
-def plan_of(flow: str, names: list[str], steps: list[dict], secrets: dict | None = None) -> dict:
-    """A plan of one run with a job for each name, each with one leg and the same steps."""
-    jobs = [{"condition": None, "env": {}, "fail_fast": True, "group": None, "id": f"j{at}", "legs": [{}], "max_parallel": None, "name": name,
-             "needs": [], "number": at, "outputs": {}, "steps": steps, "tolerate": False} for at, name in enumerate(names)]
-    roots = {"github": {}, "inputs": {}, "secrets": secrets or {}, "vars": {}}
-    return {"runs": [{"env": {}, "event": None, "flow": flow, "group": None, "jobs": jobs, "roots": roots}], "version": 2}
-
-
-class ReportCase(unittest.TestCase):
-    """A test with a folder of its own."""
-
-    @classmethod
-    def setUpClass(cls) -> None:
-        cls.room = Path(tempfile.mkdtemp(prefix="actrun-report-", dir=os.environ.get("ACTRUN_TEST_FOLDER")))
-        cls.addClassCleanup(shutil.rmtree, cls.room, ignore_errors=True)
-
-    def recorded(self, name: str, plan: dict) -> Path:
-        """The record of a plan that `run` executes; the logs are beside it."""
-        folder = self.room / name
-        folder.mkdir()
-        (folder / "plan").write_text(json.dumps(plan), encoding="utf-8")
-        subprocess.run([PROGRAM, "run", "--work", folder, "--record", folder / "record", folder / "plan"], check=False, capture_output=True)
-        return folder / "record"
-
-    @classmethod
-    def nightly(cls) -> Path:
-        """The page of an example, which is made once."""
-        if not (cls.room / "nightly.html").exists():
-            report.write(cls.room / "nightly.html", report.page(PROGRAM, EXAMPLES / "nightly.record", seconds=600))
-        return cls.room / "nightly.html"
-
-    def page(self, record: Path, **options: Any) -> Path:
-        """The page of a record, written into the folder of the test."""
-        target = Path(tempfile.mkdtemp(dir=self.room)) / "page.html"
-        report.write(target, report.page(PROGRAM, record, **{"seconds": 600, **options}))
-        return target
-
-
 class Logs(unittest.TestCase):
     def test_each_log_is_read_twice_at_most_and_none_for_a_full_page(self) -> None:
         """Of failed steps, and of the others; the masks of earlier steps count."""
         entries = [{"event": "end", "leg": leg, "answer": {"kind": "exited"}} for leg in (0, 1) for _ in range(9)]
         record = Namespace(entries=entries, begun=lambda leg, place: place - 9 * leg + 1, begins=[], done=[])
         with tempfile.TemporaryDirectory() as room, mock.patch("actrun_front.dap_logs.read_log", wraps=dap_logs.read_log) as read:
-            for leg, step in itertools.product((0, 1), range(9)):
-                Path(room, f"step-{leg}-{step}.log").write_text(f"::add-mask::{step}{step}\n{leg} {step}{step} 00\n", encoding="utf-8")
+            for leg, at in itertools.product((0, 1), range(9)):
+                Path(room, f"step-{leg}-{at}.log").write_text(f"::add-mask::{at}{at}\n{leg} {at}{at} 00\n", encoding="utf-8")
             found = report_data.read_logs(record, Path(room), Masks(), {"0-8", "1-2"})
             self.assertEqual((list(found)[:3], set(found.values())), (["0-8", "1-2", "0-0"], {"0 *** ***\n", "1 *** ***\n"}))
             self.assertLessEqual(read.call_count, 2 * len(entries))
@@ -188,6 +119,19 @@ class Written(ReportCase):
         self.assertIn('"0-1":"(left out: step-0-0.log cannot be read, so what it masks is not known)"', shown)
         self.assertIn('"logs":null', self.page(record).read_text(encoding="utf-8"))
 
+    def test_a_log_that_is_a_link_is_left_out(self) -> None:
+        """What it names may be any file of the user, and what it masks is not known."""
+        record = self.recorded("linked", plan_of("flow", ["job"], [step("one"), step("two", "echo after")]))
+        hidden = self.room / "private-file"
+        hidden.write_text("private-words\n", encoding="utf-8")
+        log = record.with_name("step-0-0.log")
+        log.unlink()
+        log.symlink_to(hidden)
+        shown = report.shown(PROGRAM, record, logs=record.parent)
+        self.assertEqual(shown["logs"], {"0-0": "(left out: step-0-0.log is a link)",
+                                         "0-1": "(left out: step-0-0.log cannot be read, so what it masks is not known)"})
+        self.assertNotIn("private-words", self.page(record, logs=record.parent).read_text(encoding="utf-8"))
+
     def test_what_is_wrong_is_said(self) -> None:
         times = self.room / "times"
         for text in ("1795800000000\n1\n", "2026-11-27T17:19:51Z\n" * 10, "1795800000000\n" + "1\n" * 8 + "1e3\n", "1795800000000\n2\n" + "1\n" * 8, ""):
@@ -213,7 +157,7 @@ class Written(ReportCase):
         for words, status, said in (
                 ([""], 2, "actrun: report: .*: Is a directory: name a file"), (["/dev/null"], 2, "actrun: report: /dev/null: this is no regular file"),
                 (["r", "-o", "/dev/full"], 3, "actrun: report: /dev/full: No space left on device"),
-                *((["r", "--seconds", it], 2, f"argument --seconds: .*{it}") for it in ("nan", "inf", "-1", "1e300", "x"))):
+                (["r", "--seconds", "1"], 2, "unrecognized arguments: --seconds 1"), (["r", "--around", "x"], 2, "argument --around: .*'x'")):
             done = ask(*words)
             self.assertEqual((done.returncode, done.stdout), (status, ""), words)
             self.assertRegex(done.stderr.splitlines()[-1], said)
@@ -221,51 +165,7 @@ class Written(ReportCase):
 
 @NEEDS_PROGRAM
 @NEEDS_BROWSER
-class Seen(ReportCase):
-    @classmethod
-    def setUpClass(cls) -> None:
-        super().setUpClass()
-        options = webdriver.ChromeOptions()
-        for word in ("--headless=new", "--no-sandbox", "--disable-dev-shm-usage", "--disable-gpu", "--window-size=1500,6000"):
-            options.add_argument(word)
-        options.set_capability("goog:loggingPrefs", {"browser": "ALL"})
-        cls.browser = webdriver.Chrome(service=Service(shutil.which("chromedriver")), options=options)
-        cls.addClassCleanup(cls.browser.quit)
-        cls.browser.set_script_timeout(300)
-
-    def open(self, page: Path, place: str = "") -> float:
-        """Opens a page; the milliseconds until it was drawn."""
-        self.browser.get("about:blank")
-        self.browser.get(f"file://{page}{place}")
-        self.wait_for(lambda: self.js("return document.documentElement.dataset.ready") == "yes")
-        return self.js("return performance.now()")
-
-    def wait_for(self, there: Callable[[], bool]) -> None:
-        """Waits until something is so, at most a minute."""
-        until = time.monotonic() + 60
-        while not there():
-            self.assertLess(time.monotonic(), until, self.browser.get_log("browser"))
-            time.sleep(0.02)
-
-    def js(self, script: str, *given: Any) -> Any:
-        return self.browser.execute_script(script, *given)
-
-    def press(self, *keys: str) -> int:
-        """The place after some keys."""
-        for key in keys:
-            self.browser.switch_to.active_element.send_keys(key)
-        return int(self.js("return document.querySelector('#place b').textContent").split()[1])
-
-    def chosen(self) -> str:
-        return self.js("return document.querySelector('[aria-selected=true] .kind').textContent")
-
-    def names(self) -> list[str]:
-        return self.js("return [...document.querySelectorAll('#rows .row .name')].map((it) => it.textContent)")
-
-    def quiet(self) -> None:
-        """The browser has nothing to complain about."""
-        self.assertEqual(self.browser.get_log("browser"), [])
-
+class Seen(Browsing):
     def generated(self) -> list[Path]:
         """Records picked by chance, with groups, cancels and faults."""
         sys.path.insert(0, str(TOP / "tools"))
@@ -301,9 +201,12 @@ class Seen(ReportCase):
         self.open(self.nightly())
         self.assertEqual(self.press(Keys.HOME), 0)
         self.assertEqual([self.press("f"), self.chosen()], [23, "step 0"])
+        self.press("w")  # (else the view follows)
         self.assertEqual([self.press(Keys.ARROW_RIGHT), self.press(Keys.ARROW_LEFT, Keys.ARROW_LEFT), self.press(Keys.END)], [24, 22, 38])
         self.assertEqual([self.press("p"), self.press("p"), self.press("p"), self.press("n")], [23, 16, 16, 23])
-        self.assertEqual([self.press("f"), self.press("F"), self.press("F"), self.press("f", "f")], [27, 23, 23, 23])  # (after the last one the first)
+        self.assertEqual([self.press("f"), self.press("F"), self.press("F"), self.press("f")], [27, 23, 23, 27])
+        # (after the failures what was skipped, after that the first again)
+        self.assertEqual([self.press("f"), self.chosen(), self.press("f"), self.chosen(), self.press("f")], [18, "step 1", 31, "job 2", 23])
         self.assertEqual(self.press(Keys.HOME, " "), 0)
         self.wait_for(lambda: self.press() >= 3)
         self.assertGreaterEqual(self.press(" "), 3)
@@ -322,7 +225,7 @@ class Seen(ReportCase):
         self.assertEqual(self.press(), 17)
         self.js("const it = document.querySelector('#slider'); it.value = 9; it.dispatchEvent(new Event('input'))")
         self.assertEqual(self.press(), 9)
-        self.wait_for(lambda: self.js("return location.hash") == "#9")
+        self.wait_for(lambda: self.js("return location.hash") == "#9/step-2-0")
         self.js("location.hash = '#31'")
         self.wait_for(lambda: self.press() == 31)
         self.assertIn("place 31 of 38", self.js("return document.querySelector('#slider').getAttribute('aria-valuetext')"))
@@ -333,14 +236,14 @@ class Seen(ReportCase):
         self.open(self.nightly())
         every = self.names()
         self.press("/", *"browser")
-        self.assertEqual(self.names()[:3], ["Nightly", "suites", "suites, suite browser"])
+        self.assertEqual(self.names()[:3], ["Nightly", "suites", "suite browser"])
         self.assertEqual([self.js("return document.querySelector('#found').textContent"), self.js("return document.querySelector('mark').textContent")],
                          ["1 found", "browser"])
         self.press(*[Keys.BACKSPACE] * 7)
         self.assertEqual(self.names(), every)
         self.js("document.querySelector('#only').click()")
-        self.assertEqual(self.names(), ["Nightly", "suites", "suites, suite api", "Keep the log", "suites, suite browser", "Run the suite",
-                                        "suites, suite soak", "Run the suite", "publish", "publish"])
+        self.assertEqual(self.names(), ["Nightly", "suites", "suite api", "Keep the log", "suite browser", "Run the suite",
+                                        "suite soak", "Run the suite", "publish", "publish"])
 
     def test_details_have_reasons_values_and_logs(self) -> None:
         steps = [step("choose", "echo CHANNEL=beta >> $GITHUB_ENV; echo word=one >> $GITHUB_OUTPUT"), step("use", "echo $CHANNEL; exit 4")]
@@ -373,6 +276,11 @@ class Seen(ReportCase):
         self.assertLessEqual({name.translate(pictures) for name in HOSTILE}, set(self.names()))
         self.assertEqual(self.js("return [window.bad, document.images.length, document.querySelectorAll('b, i, script').length]")[:2], [None, 0])
         self.assertEqual(self.js("return document.querySelectorAll('.name script, .name b, .name img, #details script, #details img').length"), 0)
+        self.assertIn(HOSTILE[0], self.js("return document.title"))
+        self.press("/", *"script")
+        self.assertGreater(len(self.js("return [...document.querySelectorAll('#hitlist li')].map((it) => it.textContent)")), 6)
+        self.assertEqual(self.js("return document.querySelectorAll('#hits script, #hits b, #hits img, #changes b, #changes script').length"), 0)
+        self.press(*[Keys.BACKSPACE] * 6)
         signs = self.js("return [...document.querySelectorAll('bdi.sign')].map((it) => [getComputedStyle(it).unicodeBidi, it.textContent])")
         self.assertIn(["isolate", "\u202e"], signs)
         self.assertEqual({it[0] for it in signs}, {"isolate"})
@@ -384,7 +292,7 @@ class Seen(ReportCase):
         self.open(self.nightly(), "#24")
         nameless = self.js("""return [...document.querySelectorAll('button, input, section, dialog, [role]')].filter((it) => !(
             it.ariaLabel || it.textContent.trim() || it.title || it.labels && it.labels.length || it.role === 'none')).map((it) => it.outerHTML)""")
-        self.assertEqual([it for it in nameless if "said" not in it and "found" not in it], [])
+        self.assertEqual([it for it in nameless if "said" not in it and "found" not in it and "hitcount" not in it], [])
         row = self.js("""const it = document.querySelector('[aria-selected=true]'), tree = document.querySelector('[role=tree]');
             return [it.role, it.ariaLevel, it.ariaLabel, it.ariaPosInSet, it.ariaSetSize, tree.getAttribute('aria-activedescendant') === it.id]""")
         self.assertEqual(row, ["treeitem", "4", "step 0 (Run the suite): failure", "1", "2", True])
@@ -412,9 +320,9 @@ class Seen(ReportCase):
         record = self.big("600", "4", "2", "64")
         total = record.read_bytes().count(b"\n") - 1
         with mock.patch.object(report_data, "MOST", 300):
-            page = self.page(record, seconds=2)
-            around = report.shown(PROGRAM, record, around=200, seconds=2)
-            early = report.shown(PROGRAM, record, around=20, seconds=2)
+            page = self.page(record)
+            around = report.shown(PROGRAM, record, around=200)
+            early = report.shown(PROGRAM, record, around=20)
         shown = json.loads(re.search(r'id="data">(.*)</script>\n<script>', page.read_text(encoding="utf-8"))[1])
         self.assertEqual([shown[it] for it in ("first", "last", "total")], [total - 300, total, total])
         self.assertEqual([around[it] for it in ("first", "last")], [50, 350])
@@ -431,7 +339,7 @@ class Seen(ReportCase):
 
     @unittest.skipIf("/unproved/" in PROGRAM, "the program that was built without proofs takes minutes for it")
     def test_a_great_record_is_shown_whole(self) -> None:
-        page = self.page(self.big("100000", "16", "24", "256"), seconds=20)
+        page = self.page(self.big("100000", "16", "24", "256"))
         self.assertLess(self.open(page), 12_000)  # (3 seconds; a busy machine has time for it too)
         self.assertLess(self.js(STEP_TIME), 200)  # (50 milliseconds)
         self.assertTrue(self.js("return document.querySelector('#window').hidden"))
