@@ -1,7 +1,7 @@
 # Completion of actrun's commands and options for bash: source this file.
 _actrun() {
   local word=${COMP_WORDS[COMP_CWORD]} before=${COMP_WORDS[COMP_CWORD - 1]} command=${COMP_WORDS[1]} offered
-  local commands='try from-yaml dap plan list lint run table replay why graph timeline report debug eval'
+  local commands='try from-yaml dap plan list lint run table replay why graph timeline report open debug eval'
   local events='push pull_request workflow_dispatch schedule release'
   COMPREPLY=()
   if [ "$COMP_CWORD" -eq 1 ]; then
@@ -15,25 +15,34 @@ _actrun() {
       return
       ;;
     --work | --keep | --logs | --repository | --directory | -C) _actrun_files -d "$word"; return ;;
-    --workflows | -W) _actrun_files -f "$word"; return ;;
+    --workflows | -W | --bind | --bind-rw) _actrun_files -f "$word"; return ;;
     --workers) _actrun_offer '1 2 4 8 16' "$word"; return ;;
+    --log-limit) _actrun_offer '100M 1G 10G 0' "$word"; return ;;
+    --break) _actrun_offer 'failed' "$word"; return ;;
     --event) _actrun_offer "$events" "$word"; return ;;
-    --job | -j | --secret | -s | --var | --input | --env | --matrix | --stub) return ;;
-    --install | --uninstall) _actrun_files -d "$word"; return ;;
+    --job | -j | --secret | -s | --var | --input | --env | --matrix | --stub | --action | --actions-url | --real) return ;;
+    --install)
+      if [[ $word == -* ]]; then _actrun_offer --yes "$word"; else _actrun_files -d "$word"; fi
+      return
+      ;;
+    --uninstall) _actrun_files -d "$word"; return ;;
   esac
   case $command in
     try)
       offered='--help --list --dryrun --graph --job --workflows --directory --eventpath --secret --secret-file --var --var-file
-        --input --input-file --env --env-file --matrix --workers --stub --stubs --lenient --any-system --in-place --keep
-        --no-sandbox --offline'
+        --input --input-file --env --env-file --matrix --workers --stub --stubs --action --actions-url --real --no-fetch --lock
+        --lenient --any-system --workspace --in-place --keep --log-limit --break --no-sandbox --offline --bind --bind-rw --writable-git
+        --verbose --quiet --engine'
       ;;
-    from-yaml) offered='--help -o --lower --contexts --repository --matrix --any-system' ;;
+    from-yaml) offered='--help -o --force --lower --contexts --repository --matrix --any-system' ;;
     plan) offered='--help --event --job --contexts' ;;
     run) offered='--help --workers --record --times --work --stubs --progress' ;;
     eval) offered='--help --contexts' ;;
-    replay) offered='--help --settled --changes' ;;
-    timeline) offered='--help --times' ;;
-    report) offered='--help -o --logs --times --around --seconds' ;;
+    replay) offered='--help --settled --changes --last' ;;
+    timeline) offered='--help --times --last' ;;
+    why | graph | debug) offered='--help --last' ;;
+    open) offered='--help -C' ;;
+    report) offered='--help -o --logs --times --around --last' ;;
     *) offered=--help ;;
   esac
   if [[ $word == -* ]]; then

@@ -2,31 +2,43 @@
 from __future__ import annotations
 
 import concurrent.futures
-import errno
 import json
 import os
 import re
 import shlex
 import sys
 import time
+from dataclasses import replace
 from pathlib import Path
 from typing import Any, Dict, Iterable
 
-from . import Problem, options as words, tree as rooms
+from . import (Problem, advice, files as safe, filters, hosted, job_outputs, keeping, last, machine, network, options as words, repository,
+               stopping, system_faults, tree as rooms)
 from .actions import StubError, Stubs, after_play, stubs_for
+from .action_sources import Actions
+from .another_versions import another_versions
+from .toolchains import PYTHON, folders
 from .contexts import Play, read_payload
-from .environment import (HOME, SUDO, SUDO_OF_ROOT, hidden_programs, marker, sandbox_words, settle, variables, why_no_sandbox,
-                          write_prelude)
+from .broker import Broker
+from .ending import Ender, see_stops
+from .environment import marker, settle, variables, write_prelude
 from .execute import Execution, ask, program
 from .explain import explain
+from .late import Once, Stages, execute_stages, tell_answers
+from .live import breaks_of
+from .masks import secrets_of
+from .next_steps import next_steps
 from .planning import Flow, job_rows, of_event, plan_flows, read_flows, workflow_files, write_private
-from .present import Board, Screen, legs_of, mask, one_line, placed, summaries, table, tree
-from .tree import find_project, find_top, git, read_facts
+from .sandbox import CLEAN, HOME, hidden_programs, python_places, sandbox_words
+from .present import Board, Screen, legs_of, one_line, placed, summaries, table, tree
+from .step_log import for_shim
+from .tree import find_project, find_top, read_facts
+from .watching import watched
+from .written import Part, as_written, unseen_steps
 
 Future = concurrent.futures.Future
 Answers = Dict[str, Future]  # by the command that was asked
 FRONT = Path(__file__).resolve().parent.parent
-PYTHON = "/usr/bin/python3" if os.access("/usr/bin/python3", os.X_OK) else sys.executable  # (the sandbox shows the system's)
 
 
 def main(arguments: list[str]) -> int:
@@ -35,18 +47,17 @@ def main(arguments: list[str]) -> int:
         print("actrun: standard output or standard error is closed: send it to a file, as > /dev/null", file=sys.stderr or sys.stdout)
         return 3
     screen = Screen()
+    stopping.heed()
     try:
         return attempt(arguments, screen)
     except (Problem, StubError) as problem:
         text, status = str(problem), getattr(problem, "status", 2)
-    except KeyboardInterrupt:
-        text, status = "stopped by Ctrl-C", 130
+    except KeyboardInterrupt as interrupt:
+        text, status = stopping.ended_by(interrupt)
     except BrokenPipeError:
         text, status = "standard output was closed before the end", 3
     except OSError as error:
-        of_cache = error.errno == errno.ENOSPC or str(rooms.cache_root().parent) in str(error.filename)
-        more = ": make room there, or name another place by the variable XDG_CACHE_HOME" if of_cache else ""
-        text, status = f"{os.fsdecode(error.filename) + ': ' if error.filename else ''}{error.strerror}{more}", 3
+        text, status = system_faults.sentence(error), 3
     for stream, show in ((sys.stderr, screen.tell), (sys.stdout, None)):
         try:
             if show:
@@ -67,31 +78,56 @@ def attempt(arguments: list[str], screen: Screen) -> int:
     whole = find_top(start)
     top = find_project(start, whole) if whole and not line.workflows else whole or start.resolve()
     options = words.complete(arguments, here, top)
+    screen.quiet = bool(options.quiet) and not (options.list or options.dryrun or options.graph)
     event, looks = options.event or "push", bool(options.list or options.dryrun or options.graph)
+    if not options.list and not looks:
+        advice.agree(options)
     files = workflow_files(options.workflows, [here, start, top], top)
-    flows = read_flows(files, top, screen)
+    flows = read_flows(files, top, screen, bool(options.lenient))
     least = 2 if len(flows) < len(files) else 0
     if options.list:
         for text in table(job_rows(of_event(flows, event, None, screen) if options.event else flows)):
             screen.say(text)
         return least
+    if whole:
+        repository.check(whole, (*options.bind, *options.bind_rw))
     facts = read_facts(top, whole is not None, whole is not None and whole.resolve() != top.resolve())
     payload = read_payload(options.eventpath) if options.eventpath else None
+    filters.check_event(flows, options)
     picked = of_event(flows, event, options.job, screen)
     work = rooms.cache_root() / "work"
+    keeping.recover_all(work)
     room = rooms.make_room(work, facts.name or top.name, here / options.keep if options.keep and not looks else None)
     try:
-        play = Play(event, facts, options, payload, room, 1 if looks else next_number(top), int(time.time() * 1000))
-        for text in () if looks else rooms.copy_tree(facts, room, bool(options.in_place)):
+        number = 1 if looks else next_number(top)
+        play = Play(event, facts, options, payload, room, number, int(time.time() * 1000))
+        picked = filters.started(picked, play, screen, flows)
+        if not picked:
+            return least
+        for text in () if looks else hosted.copy_tree(facts, room, options):
             screen.tell(f"note: not copied: {text}", "note")
-        planned, plan = plan_flows(picked, play, screen)
+        play = replace(play, actions=Actions(options, facts.top, room.play, looks, screen.tell))
+        planned, plan = plan_flows(picked, play, Once(screen))
+        play.actions.settle()
         least = 2 if len(planned) < len(picked) else least
-        return max(look(plan, planned, play, screen) if looks else Trial(planned, play, plan, screen).execute(), least)
+        if looks:
+            return max(look(plan, planned, play, screen), least)
+        return max(execute(Trial(planned, play, plan, screen), picked), least)
     finally:
-        room.lock.close()
+        machine.remove_all(room)
+        keeping.note_end(room.folder)
         if looks or not (room.private / "record").exists():
-            rooms.remove(room.folder)
-        rooms.clean(work)
+            rooms.remove(room.folder, room.identity)
+        if work.is_dir():
+            rooms.clean(work, room.folder)
+        room.lock.close()
+        machine.clean(work)
+
+
+def execute(trial: Trial, picked: list[Flow]) -> int:
+    """Executes a plan, after the stages before it, and shows all that came of it; gives the exit status."""
+    trial, whole = execute_stages(trial, picked, trial.play, trial.screen)
+    return trial.execute() if whole else trial.show()
 
 
 def next_number(top: Path) -> int:
@@ -123,101 +159,169 @@ def tree_of(plan: dict[str, Any], flows: list[Flow], play: Play) -> Iterable[str
     """The tree of a plan."""
     stubs = stubs_of(plan, play)
     stands = {**dict.fromkeys(stubs.programs, "stub"), **dict.fromkeys(stubs.named, "named program"),
-              **dict.fromkeys(stubs.missing, "no stub, its step fails"), **dict.fromkeys(stubs.lenient, "no stub, its step is skipped")}
-    yield from tree(plan, [flow.name for flow in flows], stands, {guard for flow in flows for guard in flow.lowered.guards})
+              **dict.fromkeys(stubs.missing, "no stub, its step fails"), **dict.fromkeys(stubs.lenient, "no stub, its step is skipped"),
+              **play.actions.words()}
+    guards = {guard for flow in flows for guard in flow.lowered.guards}
+    yield from tree(plan, [flow.name for flow in flows], stands, guards, lambda *place: part_of(flows, *place))
     yield from (f"{flow.name}: {job} is for {system}: it executes nothing here (--any-system executes it)"
                 for flow in flows for job, system in flow.lowered.foreign)
 
 
+def part_of(flows: list[Flow], run: int, job: str, step: int | None) -> Part | None:
+    """A job or a step of a plan where the front made it."""
+    return flows[run].lowered.parts.get(("jobs", job) if step is None else ("jobs", job, "steps", step))
+
+
 def stubs_of(plan: dict[str, Any], play: Play) -> Stubs:
-    """The programs that stand for the actions of a plan."""
+    """The programs that replace the actions of a plan."""
     works = [step["work"] for run in plan["runs"] for job in run["jobs"] for step in job["steps"]]
-    return stubs_for({work["uses"] for work in works if work["kind"] == "uses"}, play.options.named_stubs, bool(play.options.lenient),
-                     play.room.play / "stubs", PYTHON)
+    found = stubs_for({work["uses"] for work in works if work["kind"] == "uses"}, play.options.named_stubs, bool(play.options.lenient),
+                      play.room.play / "stubs", PYTHON, play.actions.commands, play.actions.reasons())
+    found.binds += folders()
+    return found
 
 
 class Trial:
     """The execution of a plan and what is shown of it."""
 
-    def __init__(self, flows: list[Flow], play: Play, plan: dict[str, Any], screen: Screen) -> None:
+    def __init__(self, flows: list[Flow], play: Play, plan: dict[str, Any], screen: Screen,
+                 stages: Stages | None = None) -> None:
         self.flows, self.play, self.plan, self.screen = flows, play, plan, screen
+        self.stages = stages or Stages()
         self.room, self.options = play.room, play.options
         self.record, self.part, self.times = (play.room.private / name for name in ("record", "record.part", "times"))
+        self.told = play.room.folder / "told"  # what the front says to steps, which can write nothing there
         self.legs = legs_of(plan)
         # several legs in one tree would disturb one another
         self.own_trees = len(self.legs) > 1 and not self.options.in_place
-        self.secrets = [text for run in plan["runs"] for text in run["roots"]["secrets"].values() if text]
+        self.secrets = list(secrets_of(plan))
         self.board = Board(screen, self.legs, marker(), self.secrets, self.room.play)
+        self.board.masks.hide_too(self.options.secrets.values())
+        self.board.unseen = unseen_steps(self.legs, lambda run, job, step: part_of(flows, run, job, step))
+        self.breaks = breaks_of(self)
         self.cache = rooms.kept_for(play.facts.top, "caches")
+        self.machine = machine.Machine(self.room, PYTHON, rooms.kept_for(play.facts.top, "apt"))
         # of the caller, unless this is a step of another `try`, whose prelude it is
         bash_env = os.environ.get("BASH_ENV", "")
         self.bash_env = os.path.abspath(bash_env) if os.path.isfile(bash_env) and bash_env != os.environ.get("ACTRUN_PRELUDE") else ""
 
     def execute(self) -> int:
         """Executes the plan and shows all that came of it; gives the exit status."""
+        self.perform()
+        return self.show()
+
+    def perform(self) -> int:
+        """Executes the plan; gives the status of the program."""
         room = self.room
+        rooms.remove(self.told)
+        self.told.mkdir()
+        if self.stages.count > 1 or self.stages.answers:
+            tell_answers(self.stages, self)
         for github in (flow.contexts["github"] for flow in self.flows):
             Path(github["event_path"]).write_text(json.dumps(github["event"], ensure_ascii=False, indent=2), encoding="utf-8", errors="replace")
         settle(self.plan, room, self.own_trees)
+        see_stops(self.plan)
+        job_outputs.withhold(self.plan)
         stubs = stubs_of(self.plan, self.play)
+        reasons = self.play.actions.reasons()
+        self.board.lenient = set(stubs.lenient)
         for text in stubs.missing:
-            self.screen.tell(f"note: no stub stands for {text}: its steps will fail; name a program by --stub "
+            why = reasons.get(text) or f"no stub replaces {text}"
+            self.screen.tell(f"note: {why}: its steps will fail; name a program by --stub "
                              f"{text.partition('@')[0]}=PROGRAM, or skip such actions by --lenient", "note")
         for name, text in (("plan", json.dumps(self.plan, ensure_ascii=False)), ("stubs.json", json.dumps(stubs.programs)),
                            *((path.name, "") for path in (self.record, self.part, self.times))):
             write_private(room.private / name, text)
+        self.board.ender = ender = Ender(self.plan, room.play, self.told, self.part).start()
+        ender.known = self.board.quiet
+        self.board.follow(self.part)
         self.part.chmod(0o200)  # (it has the secrets while steps run)
         self.cache.mkdir(exist_ok=True)
-        environment = {**variables(room, self.flows[0].contexts, write_prelude(room, self.board.mark), self.cache),
-                       "ACTRUN_PROGRAM": program(), "ACTRUN_BASH_ENV": self.bash_env, **self.options.variables}
-        execution = Execution(room.play / "files" / "stopped", self.board)
-        status = execution.run(self.words(stubs, environment), environment, room.private / "plan")
-        self.screen.status("")
-        self.show_result({**self.results_of_part(), **dict(self.board.results)})
-        return 128 + execution.signals[0] if execution.signals else status
+        environment = {**variables(room, self.flows[0].contexts, write_prelude(room, self.board.mark, self.told, PYTHON), self.cache),
+                       "ACTRUN_TOLD": str(self.told), "ACTRUN_HASHER": shlex.join([PYTHON, "-EsB", str(FRONT / "stubs" / "hash.py")]),
+                       "ACTRUN_PROGRAM": program(), "ACTRUN_BASH_ENV": self.bash_env,
+                       **hosted.variables(room), **self.options.variables}
+        with watched(self.board, self.plan, self.play) as listener:
+            ender.execution = self.execution = listener.execution = Execution(ender, listener)
+            if self.breaks:
+                ender.held, self.execution.prompt = self.breaks.held, self.breaks.prompt
+            self.status = listener.status(self.start(self.execution, stubs, environment))
+        ender.close()
+        if self.breaks:
+            self.breaks.close()
+        safe.drop_setuid(self.cache)
+        self.machine.finish(self.screen)
+        for text in job_outputs.warnings(self.plan, self.board):
+            self.screen.tell(text, "warning")
+        return self.status
 
-    def words(self, stubs: Stubs, environment: dict[str, str]) -> list[str]:
-        """The words that execute the plan: in the sandbox, or with a line that says why not."""
+    def show(self) -> int:
+        """Shows all that came of the execution; gives the exit status."""
+        self.show_result({**self.results_of_part(), **dict(self.board.results)})
+        timed_out = self.stages.timed_out or self.board.ender.timed_out
+        if self.execution.signals:
+            return 128 + self.execution.signals[0]
+        return max(self.status, int(timed_out))
+
+    def start(self, execution: Execution, stubs: Stubs, environment: dict[str, str]) -> int:
+        """Starts `actrun run`, the steps in a sandbox each leg; gives its status."""
         room, options = self.room, self.options
-        result = [program(), "run", "--progress", "--workers", str(options.workers), "--work", str(room.play),
-                  "--stubs", str(room.private / "stubs.json"), "--record", str(self.record), "--times", str(self.times), "/dev/stdin"]
-        if any(re.match(r"actions/cache(/save)?(@|$)", text) for text in stubs.programs):
-            after = shlex.join(after_play(PYTHON, self.record))
-            result = ["/bin/sh", "-c", f"{shlex.join(result)}\nstatus=$?\n{after} >&2\nexit $status"]
-        problem = "" if options.no_sandbox else why_no_sandbox(self.sandbox(stubs))
-        if problem is None:
-            (room.play / "bin" / "sudo").write_text(SUDO if os.geteuid() else SUDO_OF_ROOT, encoding="utf-8")
-            (room.play / "bin" / "sudo").chmod(0o755)
-            self.board.hidden = hidden_programs(environment.get("PATH", os.defpath))
-            environment["PATH"] = f"{room.play / 'bin'}:{environment.get('PATH', os.defpath)}"
-            environment.pop("TMPDIR", None)
-            if HOME.parent.is_dir() and "HOME" not in options.variables:
-                environment["HOME"] = str(HOME)
-            return [*self.sandbox(stubs), *result]
-        if options.offline:
-            raise Problem("--offline needs the sandbox: install bubblewrap, and leave --no-sandbox out")
-        if problem:
-            self.screen.tell(f"note: steps execute with all your rights: {problem}", "warning")
-        return result
+        words = [program(), "run", "--progress", "--workers", str(options.workers), "--work", str(room.play),
+                 "--stubs", str(room.private / "stubs.json"), "--record", str(self.record), "--times", str(self.times), "/dev/stdin"]
+        caches = any(re.match(r"actions/cache(/save)?(@|$)", text) for text in stubs.programs)
+        if options.no_sandbox and options.offline:
+            raise Problem("--offline needs the sandbox: leave --no-sandbox out")
+        if options.no_sandbox:
+            if caches:
+                after = shlex.join(after_play(PYTHON, self.record))
+                words = ["/bin/sh", "-c", f"{shlex.join(words)}\nstatus=$?\n{after} >&2\nexit $status"]
+            return execution.run(words, environment, room.private / "plan")
+        inside = self.inside(environment)
+        if self.own_trees:
+            (room.play / "legs").mkdir(exist_ok=True)
+        most, top = 0 if caches else options.workers + 8, self.play.facts.top if options.in_place else None
+        with Broker(room, lambda leg: self.machine.words(self.sandbox(stubs), leg), PYTHON, most, self.machine.before(),
+                    for_shim(options.log_limit)) as broker, \
+                self.machine.containers(broker, self.legs, inside, options, top, self.board.mark):
+            if self.breaks:
+                self.breaks.broker, broker.breaks = broker, self.breaks
+            shared = "" if options.offline else network.note(broker.leg(0).scoped)
+            if shared:
+                self.screen.tell(shared, "note")
+            status = execution.run(broker.program_words(words, inside, stubs.programs.values()), CLEAN, room.private / "plan")
+            if not execution.signals:
+                broker.check(self.board.errors)
+            ended = ask("table", self.record).stdout.splitlines() if caches and not execution.signals else []
+            for leg in sorted(broker.legs) if ended else ():
+                result = "success" if f"leg {leg} ended success" in ended else "failure"
+                broker.execute(leg, [*after_play(PYTHON, leg), result], inside, self.board.progress)
+        return status
+
+    def inside(self, environment: dict[str, str]) -> dict[str, str]:
+        """The variables of steps in the sandbox."""
+        folder, path = self.room.play / "bin", environment.get("PATH", os.defpath)
+        self.machine.prepare(bool(self.options.offline))
+        self.board.hidden = hidden_programs(path)
+        kept = {name: value for name, value in environment.items() if name != "TMPDIR"}
+        home = {} if "HOME" in self.options.variables else {"HOME": str(HOME)}
+        return {**kept, "PATH": f"{folder}:{path}", **home}
 
     def sandbox(self, stubs: Stubs) -> list[str]:
-        """The words before a command that executes in the sandbox."""
-        top, private = self.play.facts.top, self.room.private
-        readable = [Path(program()), FRONT, *stubs.binds, private / "stubs.json", *([Path(self.bash_env)] if self.bash_env else [])]
-        common = git(top, "rev-parse", "--path-format=absolute", "--git-common-dir") if self.options.in_place else None
-        in_place = [top, *([Path(common)] if common else [])] if self.options.in_place else []
-        return sandbox_words(self.room, readable, [*in_place, self.cache, self.record, self.part, self.times], bool(self.options.offline))
+        """The words before a command that executes in the sandbox of steps."""
+        top = self.play.facts.top
+        readable = [Path(program()), FRONT, *python_places(PYTHON), *stubs.binds, *hosted.shown(self.room), self.told,
+                    *([Path(self.bash_env)] if self.bash_env else [])]
+        shown, changed = [*readable, *self.options.bind], [self.cache, *self.options.bind_rw]
+        if self.options.in_place:
+            state = [path for path in (*repository.folders(top), top / ".git") if path.exists()] if self.play.facts.repository else []
+            changed += [top, *(state if self.options.writable_git else [])]
+            shown += [] if self.options.writable_git else state
+        return sandbox_words(self.room, shown, changed, bool(self.options.offline), top)
 
     def results_of_part(self) -> dict[int, str]:
         """Where the program did not write its whole record, takes the part that grew with the events; gives the results of runs in that part."""
-        if not self.part.exists():
+        if not keeping.recover(self.room.private):
             return {}
-        self.part.chmod(0o600)
-        if self.part.stat().st_size <= self.record.stat().st_size:
-            self.part.unlink()  # (the program cannot remove it in the sandbox)
-            return {}
-        os.truncate(self.part, self.part.read_bytes().rfind(b"\n") + 1)  # (a kill may cut the last line)
-        self.part.replace(self.record)
         self.screen.tell(f"note: the program was ended before it wrote its whole record: {self.record} has the events until then", "warning")
         closed = re.findall(r"(?m)^run (\d+) closed (\w+)", ask("replay", self.record).stdout)
         return {**dict.fromkeys(range(len(self.flows)), "interrupted"), **{int(run): result for run, result in closed}}
@@ -239,23 +343,37 @@ class Trial:
         screen = self.screen
         for title, text in summaries(self.room.play / "files", self.secrets, self.board):
             screen.section(title)
-            screen.say(text)
+            screen.log(text)
         screen.say("")
         for number, flow in enumerate(self.flows):
             result, name = results.get(number, "stalled"), one_line(self.plan["runs"][number]["flow"])
             title = name if name == flow.name else f"{name} ({flow.name})"
+            if flow.run_name:
+                title = f"{one_line(flow.run_name)} ({', '.join(dict.fromkeys([name, flow.name]))})"
             screen.result(result, f"{title}: ", sys.stdout, result)
             for job, system in flow.lowered.foreign:
                 screen.say(f"  {job} is for {system}: nothing of it was executed (--any-system executes it here)", "skipped")
-        for line in placed(mask(asked["why"].result().stdout, self.secrets).splitlines(), self.legs, self.place) if asked else \
-                self.board.without_record():
+        why = as_written(asked["why"].result().stdout.splitlines(), self.made) if asked else []
+        for line in placed(why, self.legs, self.place, self.board.cause) if asked else self.board.without_record():
             screen.say(f"  {line}")
+        versions = another_versions(self.room.play / "files", self.secrets, self.board)
+        for text in (*versions, *self.board.skips(), *self.stages.by_hand):
+            screen.say(f"  {text}", "warning")
         for text in filter(None, (explain(line, "run", ["--work", str(self.room.folder)]) for line in self.board.errors)):
             screen.tell(text)
+        if self.options.keep is None:
+            rooms.remove(self.room.play / "actions")
         done = {leg.job["number"] for leg in self.legs if results.get(leg.run) == "success"}
         if self.own_trees and self.options.keep is None:
-            for folder in (folder for job in done for folder in (self.room.play / "legs").glob(f"{job}-*")):
-                rooms.remove(folder)
+            for name in safe.names(self.room.play, "legs"):
+                if name.partition("-")[0] in map(str, done):
+                    safe.remove_below(self.room.play, "legs", name)
+
+    def made(self, kind: str, number: int, step: int | None) -> Part | None:
+        """A job, or a step of a leg, where the front made it."""
+        of_job = (leg for leg in self.legs if leg.job["number"] == number)
+        leg = self.legs[number] if kind == "leg" else next(of_job)
+        return part_of(self.flows, leg.run, leg.job["id"], step)
 
     def place(self, run: int, job: str, step: int | None) -> str:
         """File and line of a job or a step."""
@@ -267,7 +385,8 @@ class Trial:
         from . import timeline  # (here, as `report` is)
         private, play = self.room.private, self.room.play
         yield f"logs      {play}/step-LEG-STEP.log"
-        trees = [folder / self.room.name for folder in sorted((play / "legs").glob("*"))] if self.own_trees else [self.play.workspace]
+        made = sorted(name for name in safe.names(play, "legs") if re.fullmatch(r"\d+-\d+", name))
+        trees = [play / "legs" / name / self.room.name for name in made] if self.own_trees else [self.play.workspace]
         if trees:
             yield f"tree      {trees[0] if len(trees) == 1 else play / 'legs' / 'JOB-INDEX' / self.room.name}"
         if page:
@@ -278,3 +397,8 @@ class Trial:
                 yield f"{command:<9} {private / name}"
             if page.result():
                 yield f"report    {page.result()}"
+            elif system_faults.is_full(private):
+                self.screen.tell(f"note: the page cannot be written: {private}: {system_faults.FULL}", "warning")
+        shown = page.result() if page else None
+        last.keep(self.play.facts.top, last.Last(str(self.record), str(play), str(self.times), str(shown or "")))
+        yield from next_steps(self.board, self.flows, self.options, bool(page), bool(shown))

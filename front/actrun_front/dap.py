@@ -15,8 +15,11 @@ from .dap_contexts import Frame, Shown, Surroundings
 from .dap_lines import Workflow, named_files
 from .dap_logs import plan_masks, shown_log
 from .dap_record import Mishap, Record, Walker
+from .dap_shapes import misshapen
 from .dap_wire import BadMessage, LostStream, read_message, write_message
 from .expressions import EvaluationError, Program, references
+from .last import launched
+from .unforeseen import of_system, sentence
 
 USAGE = """usage: actrun dap
 Serves the Debug Adapter Protocol over standard input and output; an editor starts it to walk a record.
@@ -85,6 +88,7 @@ class Session:
         if self.walker is not None:
             raise Problem("a record was launched before")
         folder = pathlib.Path(text(given, "cwd", "."))
+        given = launched(given, folder)
         path = pathlib.Path(os.path.abspath(folder / text(given, "record")))
         names = given.get("workflows") or []
         if not isinstance(names, list) or not all(isinstance(name, str) for name in names):
@@ -162,7 +166,7 @@ class Session:
         return {**answer, "id": self.add_stop(file, self.record.places_of(things))}
 
     def things(self, file: str, line: int) -> list[tuple[int, int]]:
-        """The jobs (with -1) and steps of the plan that a line of a file stands for."""
+        """The jobs (with -1) and steps of the plan that a line of a file declares."""
         return [thing for owner, lines in zip(self.files, self.lines) if owner == file for thing, at in lines.items() if at == line]
 
     def add_stop(self, owner: str, places: list[int]) -> int:
@@ -373,12 +377,12 @@ class Session:
     def tree(self) -> dict[str, Shown]:
         """The board: runs, in them jobs, legs and steps."""
         board, name = self.board, self.record.name
-        legs = [Shown(str(stand), inside={name("step", leg, at): Shown(str(done)) for at, done in enumerate(stand.steps)})
-                for leg, stand in enumerate(board.legs)]
-        jobs = [Shown(str(stand), inside={name("leg", leg): legs[leg] for leg in self.record.legs_of[job]})
-                for job, stand in enumerate(board.jobs)]
-        return {name("run", run): Shown(str(stand), inside={name("job", job): jobs[job] for job, (owner, _) in enumerate(self.record.jobs)
-                                                            if owner == run}) for run, stand in enumerate(board.runs)}
+        legs = [Shown(str(row), inside={name("step", leg, at): Shown(str(done)) for at, done in enumerate(row.steps)})
+                for leg, row in enumerate(board.legs)]
+        jobs = [Shown(str(row), inside={name("leg", leg): legs[leg] for leg in self.record.legs_of[job]})
+                for job, row in enumerate(board.jobs)]
+        return {name("run", run): Shown(str(row), inside={name("job", job): jobs[job] for job, (owner, _) in enumerate(self.record.jobs)
+                                                            if owner == run}) for run, row in enumerate(board.runs)}
 
     def on_variables(self, given: dict) -> dict:
         value = found(self.values, given.get("variablesReference"), "variables")
@@ -460,7 +464,7 @@ def text(given: dict, name: str, otherwise: str | None = None) -> str:
 
 
 def found(table: dict[int, Any], number: Any, kind: str) -> Any:
-    """What a number that the client was given stands for."""
+    """What a number that the client was given means."""
     if number not in table:
         raise Problem(f"there is no {kind} {number} at this place: ask for the stackTrace again")
     return table[number]
@@ -519,7 +523,7 @@ class Server:
         return 0
 
     def answer(self, request: dict) -> None:
-        """Answers one request, then does what follows. Where the program has ended, the client is told that the session is over."""
+        """Answers one request, then does what follows. If the program has ended, the client learns that the session is over."""
         command, given = request.get("command"), request.get("arguments")
         self.session.after = []
         try:
@@ -529,16 +533,23 @@ class Server:
             if not isinstance(given, (dict, type(None))):
                 raise Problem("the arguments have to be an object")
             self.session.check(command)
+            wrong = misshapen(command, given or {})
+            if wrong:
+                raise Problem(f"{command}: {wrong}")
             body = handler(given or {})
-        except (Problem, OSError, ValueError, KeyError, TypeError, AttributeError) as fault:
-            self.refuse(request, str(fault) if isinstance(fault, Problem) else f"{command} was refused: {type(fault).__name__} {fault}")
-            return
+        except Problem as fault:
+            return self.refuse(request, str(fault))
+        except OSError as fault:
+            return self.refuse(request, of_system(fault, command))
+        except Exception as fault:  # (the session goes on)
+            return self.refuse(request, f"{command}: {sentence(fault, f'dap: {command}')}")
         self.respond(request, True, body=body)
         try:
             for action in self.session.after:
                 action()
-        except Problem as fault:
-            self.session.print(f"{fault}\n", "important")
+        except (Problem, ValueError, LookupError, TypeError, AttributeError) as fault:
+            what = str(fault) if isinstance(fault, Problem) else f"{command}: {sentence(fault, f'dap: {command}')}"
+            self.session.print(f"{what}\n", "important")
             self.send_event("terminated", {})
 
 

@@ -238,13 +238,13 @@ class Record:
         """All that did not succeed: steps by the board after the last entry, the rest by what `why` says."""
         found = [Mishap(self.done[leg][at], FILTER_OF[step.outcome], f"{self.name('step', leg, at)} of {self.name('leg', leg)}: {step}",
                         ("step", str(leg), str(at)))
-                 for leg, stand in enumerate(board.legs) for at, step in enumerate(stand.steps) if step.outcome in FILTER_OF]
+                 for leg, row in enumerate(board.legs) for at, step in enumerate(row.steps) if step.outcome in FILTER_OF]
         for line in self.why(self.last, []).split("\n"):
             line = line.lstrip(" ")
             kind, number = (line.split(" ", 2) + [""])[:2]
             name = self.name(kind, int(number)) if kind in ("run", "job", "leg") else "no name"
             fact = MISHAP.fullmatch(line[len(name):]) if line.startswith(name) else None
-            if fact and (fact[3] or "cancelled" in fact[1]):  # else it failed by something that is told below it
+            if fact and (fact[3] or "cancelled" in fact[1]):  # else it failed by something that is shown below it
                 displaced = kind != "job" and line.endswith(" took its place in the group")
                 found.append(Mishap(int(fact[2]) - 1, "displaced" if displaced else FILTER_OF[fact[1]], line, (kind, number)))
         return found

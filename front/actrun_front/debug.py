@@ -11,6 +11,8 @@ from .dap_logs import plan_masks
 from .dap_record import PLACE, Record, Walker
 from .execute import ask, program
 from .explain import show
+from .report_data import Texts
+from .visible import visible
 
 HELP = """\
   step, back          one event forwards, one back
@@ -36,14 +38,15 @@ def main(arguments: list[str]) -> int:
         return refusal(arguments)
     try:
         prompt = Prompt(walker, Record(program(), path.read_bytes()), changes_of(path))
-        sys.stdout.reconfigure(errors="backslashreplace")  # type: ignore[union-attr]
-        print(f"{path}: {walker.last} event{'s' * (walker.last != 1)}; `help` lists the commands")
+        for stream in (sys.stdin, sys.stdout):
+            stream.reconfigure(errors="backslashreplace")  # type: ignore[union-attr]
+        print(visible(f"{path}: {walker.last} event{'s' * (walker.last != 1)}; `help` lists the commands"))
         prompt.talk()
         return 0
     except KeyboardInterrupt:  # (not at the prompt)
         return 130
     except Problem as problem:
-        print(f"actrun: debug: {problem}", file=sys.stderr)
+        print(visible(f"actrun: debug: {problem}"), file=sys.stderr)
         return 3
     finally:
         walker.close()
@@ -80,6 +83,7 @@ class Prompt:
 
     def __post_init__(self) -> None:
         self.masks = plan_masks(self.record.plan)
+        self.values = Texts(self.masks)
 
     def talk(self) -> None:
         """Answers the lines of a person until there are no more."""
@@ -103,7 +107,7 @@ class Prompt:
             if last in ("quit", "exit", "q"):
                 return
             for line in self.answers(last):
-                print(line)
+                print(visible(line))
 
     def answers(self, line: str) -> Iterator[str]:
         """What is shown after a line: the program's answer, and after a move the event that led to its place and what that changed."""
@@ -113,13 +117,13 @@ class Prompt:
         elif command == "why":
             yield self.why(words)
         elif line == "show":
-            yield from self.walker.board_lines()
+            yield from map(self.values.hidden, self.walker.board_lines())
         else:
             answer, place = self.walker.ask(line), self.walker.place
             yield f"{answer}: {REMEDIES[answer].format(last=self.walker.last)}" if answer in REMEDIES else answer
             if PLACE.fullmatch(answer) and place:
                 yield f"  {self.masks.hide(self.record.happened(place))}"
-                yield from (f"    {change}" for change in self.changes[place])
+                yield from (f"    {self.values.hidden(change)}" for change in self.changes[place])
 
     def why(self, words: list[str]) -> str:
         """What `actrun why` says of the record up to the place."""

@@ -1,20 +1,23 @@
 """Executes a plan by `actrun run`, hands its lines on as they come, and ends the steps at a signal."""
 from __future__ import annotations
 
+import contextlib
 import os
 import re
 import signal
 import subprocess
 import threading
-import time
 from dataclasses import dataclass, field
 from pathlib import Path
-from typing import IO, Any, Callable, Iterable
+from typing import IO, Any, Callable, Iterable, Iterator
 
 from . import Problem
+from .tied import tied
 
 PATIENCE = 3.0
-SIGNALS = {signal.SIGINT: "Ctrl-C", signal.SIGTERM: "SIGTERM", signal.SIGHUP: "SIGHUP"}  # that end the steps, and what a person calls them
+# that end the steps, and what a person calls them
+SIGNALS = {signal.SIGINT: "Ctrl-C", signal.SIGQUIT: "Ctrl-\\", signal.SIGTERM: "SIGTERM",
+           signal.SIGHUP: "SIGHUP"}
 PROGRESS = re.compile(r"leg (\d+) \(.*?\) step (\d+) of \d+ (?:started: .*|refused: (?P<refusal>.*)|(?P<end>exit (?P<code>\d+)|bad output|not started: .* \((?P<why>.*)\))"
                       r"(?: in (?P<seconds>[\d.]+) s)?, \d+ of \d+ steps)")
 REFUSALS = {"NotUtf8": "it is no UTF-8", "NoName": "a line is neither NAME=VALUE nor NAME<<DELIMITER, or a name has a sign that is not allowed",
@@ -62,20 +65,18 @@ def session(leader: int) -> dict[int, int]:
     return found
 
 
-def steps_of(leader: int) -> list[int]:
-    """The processes of the steps: those of the session, without those that lead from its leader to the program."""
-    parents, chains = session(leader), []
-    for number in parents:
-        try:
-            is_program = Path(f"/proc/{number}/cmdline").read_bytes().split(b"\0")[0] == os.fsencode(program())
-        except OSError:
-            continue
-        chain = [number] if is_program else []
-        while chain and chain[-1] in parents:
-            chain.append(parents[chain[-1]])
-        chains += [chain] if chain else []
-    spared = min(chains, key=len, default=list(parents))  # (a step may start the program, too)
-    return [number for number in parents if number not in spared]
+@contextlib.contextmanager
+def heeded() -> Iterator[None]:
+    """Lets programs that are started here heed SIGINT and SIGQUIT, also where the caller ignores these."""
+    both = (signal.SIGINT, signal.SIGQUIT)
+    ignored = [number for number in both if signal.getsignal(number) is signal.SIG_IGN]
+    for number in ignored:
+        signal.signal(number, lambda *_: None)  # (a program that is started has the default instead)
+    try:
+        yield
+    finally:
+        for number in ignored:
+            signal.signal(number, signal.SIG_IGN)
 
 
 def send(number: int, processes: Iterable[int]) -> None:
@@ -95,52 +96,52 @@ def each_line(stream: IO[bytes], take: Callable[[str], None]) -> None:
 
 @dataclass
 class Execution:
-    """One `actrun run`. The first signal ends its steps, so that the program still writes what it knows; the second ends it."""
+    """One `actrun run`. The first signal stops its legs, and the program writes what it knows; the second ends it."""
 
-    stopped: Path                               # a file that keeps further steps from starting, and says why
+    ender: Any                                  # stops legs
     board: Any                                  # takes lines of output and of progress, and says that a signal was seen
     signals: list[int] = field(default_factory=list)
     child: Any = None
+    prompt: Any = None                          # takes Ctrl-C while a person is asked
 
     def run(self, words: list[str], environment: dict[str, str], plan: Path) -> int:
         """Executes the plan to its end; gives the status of `run`, or 3 where a signal ended it, also in the sandbox."""
         # (what the caller ignores stays ignored, as by `nohup`)
         kept = {number: signal.signal(number, self.interrupt) for number in SIGNALS if signal.getsignal(number) is not signal.SIG_IGN}
         try:
-            with open(plan, "rb") as text:
-                self.child = subprocess.Popen(words, stdin=text, stdout=subprocess.PIPE, stderr=subprocess.PIPE, env=environment,
-                                              start_new_session=True)
-            reader = threading.Thread(target=each_line, args=(self.child.stderr, self.board.progress), daemon=True)
-            reader.start()
-            each_line(self.child.stdout, self.board.output)
-            status = self.child.wait()
-            reader.join(PATIENCE)
-            return status if 0 <= status < 128 else 3
+            waits, held = os.pipe()  # (this process alone keeps `held` open)
+            with open(held, "wb"), open(waits, "rb") as end:
+                return self.execute(tied(words, plan, plan.with_name("record.part")), environment, end)
         finally:
             self.end()
             for number, handler in kept.items():
                 signal.signal(number, handler)
 
+    def execute(self, words: list[str], environment: dict[str, str], end: IO[bytes]) -> int:
+        """Starts the words, hands on what they print, and gives their status."""
+        with heeded():
+            self.child = subprocess.Popen(words, stdin=end, stdout=subprocess.PIPE, stderr=subprocess.PIPE, env=environment,
+                                          start_new_session=True)
+        end.close()
+        reader = threading.Thread(target=each_line, args=(self.child.stderr, self.board.progress), daemon=True)
+        reader.start()
+        each_line(self.child.stdout, self.board.output)
+        status = self.child.wait()
+        reader.join(PATIENCE)
+        return status if 0 <= status < 128 else 3
+
     def interrupt(self, number: int, _: Any) -> None:
         """What a signal does."""
+        if number == signal.SIGINT and self.prompt and self.prompt.interrupt():
+            return
         self.signals.append(number)
         if self.child is None:
             raise Problem(f"stopped by {SIGNALS[number]}", 128 + number)
         if len(self.signals) > 1:
             self.end()
             return
-        self.stopped.write_text(f"stopped by {SIGNALS[number]}\n", encoding="utf-8")
-        for work in (lambda: self.board.stop(SIGNALS[number]), self.wind_down):  # (not here: this thread may be writing a line)
-            threading.Thread(target=work, daemon=True).start()
-
-    def wind_down(self) -> None:
-        """Ends the steps, then what is left of them, and where the program still waits, the program."""
-        for number in (signal.SIGTERM, signal.SIGKILL, signal.SIGKILL):
-            if self.child.poll() is None:
-                send(number, steps_of(self.child.pid))
-                time.sleep(PATIENCE)
-        if self.child.poll() is None:
-            self.end()
+        for work in (self.board.stop, self.ender.stop_all):  # (not here: this thread may be writing a line)
+            threading.Thread(target=work, args=(SIGNALS[number],), daemon=True).start()
 
     def end(self) -> None:
         """Ends the program and all that is left of its session."""

@@ -15,6 +15,7 @@ import subprocess
 import sys
 from typing import Iterable, Iterator
 
+from .visible import visible
 from .yaml_reader import read_document, text_of
 
 LEAST_SPACE = 1 << 20
@@ -24,7 +25,7 @@ SENTENCES = {
     "memory": "the memory of this machine or of its limits (ulimit -v) is used up; nothing was changed",
     "load NotJson": "its first line is no JSON: `actrun plan FLOW.. > FILE` makes a plan, `actrun run --record FILE PLAN` a record",
     "load Version": "its first line is an object whose `version` is missing or neither 1 nor 2: is it a workflow? `actrun plan` makes a plan of it",
-    "load NotPlan": "its first line has a version but breaks a rule of plans: make it anew with `actrun plan`",
+    "load NotPlan": "its first line has a version but breaks a rule of plans: make it again with `actrun plan`",
     "line NotEntry": "the line is no entry: it was cut short or edited; the lines before it are whole",
     "line NoSuch": "the entry names a run, job or leg that the plan does not have: plan and entries belong to different runs",
     "line WrongState": "the entry cannot follow the lines before it: a line is missing, doubled or out of order",
@@ -40,9 +41,9 @@ SENTENCES = {
     "plan TooMany": "more than 64 workflows, 256 jobs, 256 steps of a job or 4,096 legs: plan fewer files at once, or choose with --job",
     "expr UnclosedText": "a single quote is not closed",
     "expr BadNumber": "numbers are whole: write another one as a text, in single quotes",
-    "expr BadChar": "nothing begins so: texts stand in single quotes, and `==` compares",
+    "expr BadChar": "unexpected character: strings take single quotes, and the equality operator is `==`",
     "expr Unexpected": "another word or sign should stand there, or the expression ends too early",
-    "expr UnknownName": "this is no context, function or literal: texts stand in single quotes",
+    "expr UnknownName": "this is no context, function or literal: strings take single quotes",
     "expr UnknownFunction": "there is no such function; `hashFiles` is known to `actrun try` and `from-yaml --lower`",
     "expr ArgumentCount": "the function takes another number of arguments",
     "expr TooDeep": "the expression nests deeper than 50",
@@ -86,7 +87,7 @@ def take_apart(command: str, arguments: list[str]) -> tuple[dict[str, str], list
         elif equals and not known[name]:
             wrong.append(f"{name} takes no value")
         elif name in options or known[name] and not equals and not rest:
-            wrong.append(f"{name} stands twice" if name in options else f"a value is missing after {name}")
+            wrong.append(f"{name} is given twice" if name in options else f"a value is missing after {name}")
         else:
             options[name] = value if equals or not known[name] else rest.pop(0)
     return options, operands, [*wrong, *misfits(command, options, operands)]
@@ -253,7 +254,7 @@ def explain(line: str, command: str, arguments: list[str], origins: Origins | No
         return f"{file} is YAML: actrun from-yaml {shlex.quote(file)} writes {made}, which this command reads; actrun try needs none"
     if kind == "flow" or kind == "plan" and rest != "TooMany":
         return lint([file] if file else operands, error, origins or {}) or f"actrun lint {file or 'FILE'} names the place, and what to write there"
-    number, name, at = re.fullmatch(r"(\d*) ?(\w*)(?: at (\d+))?.*", rest).groups()  # type: ignore[union-attr]
+    number, name, at = re.fullmatch(r"(\d*) ?(\w*)(?: at (\d+))?.*", rest, re.DOTALL).groups()  # type: ignore[union-attr]
     sentence = SENTENCES.get(f"{kind} {name}".strip())
     if sentence and kind in ("load", "line"):
         keeps = f": head -n {int(number) - 1} {shlex.quote(operand) if operand else 'FILE'} > RECORD" if name == "NotEntry" else ""
@@ -278,4 +279,4 @@ def show(line: str, command: str, arguments: list[str]) -> None:
     words = explain(line, command, arguments)
     if words:
         sys.stderr.reconfigure(errors="backslashreplace")  # type: ignore[union-attr]
-        print("  " + words.replace("\n", "\n  "), file=sys.stderr)
+        print("  " + visible(words).replace("\n", "\n  "), file=sys.stderr)

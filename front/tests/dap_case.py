@@ -170,7 +170,7 @@ class DapCase(unittest.TestCase):
         return client
 
     def at_entry(self, record: Path, **more: Any) -> Client:
-        """A client that stands at place 0."""
+        """A client at place 0."""
         client = self.launched(record, stopOnEntry=True, **more)
         client.ask("configurationDone")
         self.assertEqual(client.event("stopped")["reason"], "entry")

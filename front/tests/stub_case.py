@@ -70,7 +70,7 @@ class StubCase(unittest.TestCase):
 
     def start(self, uses: str, inputs: dict[str, str] | None = None, number: int = 0, lenient: bool = False,
               named: dict[str, str] | None = None) -> Ended:
-        """Starts what stands for an action, as step `number` of leg 0."""
+        """Starts what replaces an action, as step `number` of leg 0."""
         stubs = actions.stubs_for([uses], named or {}, lenient, self.room / "wrappers", sys.executable)
         files = {name: self.write(f"step-0-{number}{end}") for name, end in
                  (("GITHUB_OUTPUT", ".out"), ("GITHUB_ENV", ".env"), ("GITHUB_PATH", ".path"))}

@@ -1,4 +1,4 @@
-"""Which program stands for an action, and the wrappers that start it."""
+"""Which program replaces an action, and the wrappers that start it."""
 
 from __future__ import annotations
 
@@ -49,7 +49,7 @@ class Actions(unittest.TestCase):
         self.assertEqual((lenient.missing, sorted(lenient.lenient)), ([], without))
 
     def test_a_missing_stub_fails_and_says_how_to_name_one(self) -> None:
-        for text, key, why in (("who/what@v1", "who/what", "no program stands for the action who/what@v1"),
+        for text, key, why in (("who/what@v1", "who/what", "no program replaces the action who/what@v1"),
                                ("./local", "./local", "the local action ./local"), ("docker://x:1", "docker://x:1", "a container"),
                                ("o/r/.github/workflows/w.yml@v1", "o/r/.github/workflows/w.yml", "a workflow of another repository"),
                                ("actions/github-script@v7", "actions/github-script", "calls the API of GitHub")):
@@ -61,7 +61,7 @@ class Actions(unittest.TestCase):
 
     def test_lenient_skips_with_a_warning(self) -> None:
         code, shown = self.shown(self.stubs(["who/what@v1"], lenient=True).programs["who/what@v1"])
-        self.assertEqual((code, shown), (0, "::warning::skipped: no program stands for the action who/what@v1\n"))
+        self.assertEqual((code, shown), (0, "::warning::skipped: no program replaces the action who/what@v1\n"))
 
     def test_the_longest_name_of_a_program_wins(self) -> None:
         named = {"a/b": self.program("of-owner", "echo owner"), "a/b/c": self.program("of-path", "echo path"),

@@ -107,15 +107,16 @@ class Orders(DapCase):
         for command, given, words in [
                 ("next", [], "the arguments have to be an object"), ("next", {}, "there is no thread None"),
                 ("next", {"threadId": 2}, "there is no thread 2: the threads 1 to 1 are the legs"),
-                ("stackTrace", {"threadId": 0}, "there is no thread 0"), ("stepIn", {"threadId": "1"}, "there is no thread 1"),
+                ("stackTrace", {"threadId": 0}, "there is no thread 0"), ("stepIn", {"threadId": "1"}, "stepIn: `threadId` has to be a whole number"),
                 ("scopes", {"frameId": 77}, "there is no frame 77"), ("variables", {}, "there is no variables None"),
                 ("goto", {"targetId": 99}, "there is no place 99: the record has the places 0 to 8"),
                 ("goto", {"targetId": -1}, "there is no place -1"), ("evaluate", {}, "`expression` has to be a text"),
                 ("evaluate", {"expression": "place", "frameId": 5}, "there is no frame 5"),
-                ("setBreakpoints", {}, "`path` has to be a text"), ("setBreakpoints", {"source": 3}, "setBreakpoints was refused"),
-                ("setBreakpoints", {"source": {"path": "/x"}, "breakpoints": [{"line": "4"}]}, "setBreakpoints was refused"),
-                ("setExceptionBreakpoints", {"filterOptions": [1]}, "setExceptionBreakpoints was refused"),
-                ("variables", {"variablesReference": {}}, "variables was refused"),
+                ("setBreakpoints", {}, "`path` has to be a text"), ("setBreakpoints", {"source": 3}, "setBreakpoints: `source` has to be an object"),
+                ("setBreakpoints", {"source": {"path": "/x"}, "breakpoints": [{"line": "4"}]},
+                 "setBreakpoints: `breakpoints[0].line` has to be a whole number"),
+                ("setExceptionBreakpoints", {"filterOptions": [1]}, "setExceptionBreakpoints: `filterOptions[0]` has to be an object"),
+                ("variables", {"variablesReference": {}}, "variables: `variablesReference` has to be a whole number"),
                 ("exceptionInfo", {"threadId": 1}, "the record is at no exception")]:
             self.assertIn(words, client.refused(command, given), (command, given))
         self.assertEqual(self.moved(client, "stepIn", threadId=1), ("step", "place 1 of 8", 1))
@@ -128,7 +129,7 @@ class Orders(DapCase):
                 ({}, "`record` has to be a text"), ({"record": ""}, "`record` has to be a text"),
                 ({"record": 3}, "`record` has to be a text"),
                 ({"record": "/nowhere/record"}, "/nowhere/record: there is no such file"),
-                ({"record": str(self.room / "pipe")}, "there is no such file"), ({"record": "a\0b"}, "there is no such file"),
+                ({"record": str(self.room / "pipe")}, "there is no such file"), ({"record": "a\0b"}, "`record` has to be a text"),
                 ({"record": str(EXAMPLES / "refused.record")}, "line 2 WrongState: "),
                 ({"record": str(EXAMPLES / "cut.record")}, "cut.record > RECORD"),
                 ({"record": str(EXAMPLES / "ci.json")}, "ci.json: its first line is no JSON"),
@@ -154,7 +155,7 @@ class Orders(DapCase):
 
 @NEEDS_PROGRAM
 class Story(DapCase):
-    """The first example: a job with two legs, of which one fails."""
+    """The first example: a job with two legs; one fails."""
 
     @classmethod
     def setUpClass(cls) -> None:

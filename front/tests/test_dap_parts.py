@@ -48,7 +48,7 @@ class Room(unittest.TestCase):
 
 class Lines(Room):
     def run_of(self, steps: int) -> dict:
-        """A run of the workflow above whose job has so many steps."""
+        """A run of the workflow above whose job has that many steps."""
         roots = {"github": {}, "inputs": {}, "secrets": {}, "vars": {}}
         return {"flow": "Calls", "roots": roots, "jobs": [{"id": "marks", "number": 3, "steps": [{}] * steps}]}
 
@@ -89,7 +89,7 @@ class Lines(Room):
 class Logs(Room):
     def test_the_longest_mask_from_the_left_is_hidden(self) -> None:
         masks = Masks(["ab", "abc", "", "line one\nline two\n}"])
-        self.assertEqual(masks.hide("xabcab, line two }"), "x******, *** }")
+        self.assertEqual(masks.hide("xabcab, line two }"), "x******, *** ***")
         self.assertEqual(masks.hide({"ab": ["abx", 1, None]}), {"***": ["***x", 1, None]})
         self.assertEqual(Masks([]).hide("ab"), "ab")
         self.assertEqual(Masks(["abcdx", "cdef", "f"]).hide("abcdef abcdx"), "ab*** ***")

@@ -112,7 +112,7 @@ class Explain(unittest.TestCase):
     def test_the_line_of_the_yaml_file_that_the_json_was_made_of(self) -> None:
         self.program(LINT)
         self.write("bad.yml", "on: push\njobs:\n  test:\n    steps:\n      - run: ${{ x\n")
-        done = subprocess.run([sys.executable, str(TOP / "front"), "from-yaml", "bad.yml"], capture_output=True, check=False)
+        done = subprocess.run([sys.executable, str(TOP / "front"), "from-yaml", "--force", "bad.yml"], capture_output=True, check=False)
         self.assertEqual(done.returncode, 0)
         words = explain("actrun: plan Expr UnclosedTemplate at 13", "plan", ["bad.json"])
         self.assertEqual(words, "bad.yml:5: jobs.test.steps.0.run: the `${{` there has no `}}`: close it")
@@ -190,8 +190,8 @@ class Explain(unittest.TestCase):
         for command, arguments, expected in (
                 ("plam", [], "there is no command plam; did you mean plan?"), ("plan", [], "plan needs a file"),
                 ("eval", [], "eval needs an expression"), ("run", ["--worker", "x"], "run has no option --worker; did you mean --workers?"),
-                ("run", ["x", "--work"], "a value is missing after --work"), ("replay", ["--settled", "--settled", "r"], "stands twice"),
-                ("run", ["--progress=x", "p"], "--progress takes no value"), ("run", ["--work=a", "--work", "b", "p"], "--work stands twice"),
+                ("run", ["x", "--work"], "a value is missing after --work"), ("replay", ["--settled", "--settled", "r"], "is given twice"),
+                ("run", ["--progress=x", "p"], "--progress takes no value"), ("run", ["--work=a", "--work", "b", "p"], "--work is given twice"),
                 ("plan", ["--event", "a", "--job", "b", "f"], "--event and --job are not taken together"),
                 ("replay", ["--changes", "--settled", "r"], "--settled and --changes are not taken together"),
                 ("eval", ["1", "==", "2"], "eval takes one expression: put it in quotes"), ("run", ["a", "b"], "run takes one file: b is too many"),

@@ -43,7 +43,7 @@ REFUSED = [
     (b"a: 1\nb: &b\n  - *b\n", "3: the alias *b is inside the value that it names"),
     (b"a: .nan\n", "1: JSON has no number .nan; write a text in quotes"),
     (b"a:\n- -.INF\n", "2: JSON has no number -.INF; write a text in quotes"),
-    (b'a: 1\nb: "\\ud83d"\n', "2: a text has half a character"),
+    (b'a: 1\nb: "\\ud83d"\n', "2: a string has an unpaired surrogate"),
     (b"\n" + b"[" * 128 + b"]" * 128, "2: values nest deeper than 127"),
     (b"a: &a " + b"[" * 64 + b"]" * 64 + b"\nb: " + b"[" * 64 + b"*a" + b"]" * 64, "2: values nest deeper than 127"),
     (b"\n" + b"[" * 1500, "2: values nest deeper than 127"),

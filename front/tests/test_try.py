@@ -31,7 +31,7 @@ class Example(TryCase):
         self.assert_status(done, 0)
         sha = self.git("rev-parse", "HEAD")
         self.assertEqual(done.stdout.count(f"sha {sha} on Linux, refs/heads/main, Linux\n1\n"), 2)
-        for leg in ("test (3.10): tests", "test (3.11): tests"):
+        for leg in ("test (3): tests", "test (3.x): tests"):
             self.assertIn(f"--- {leg}\n", done.stdout)
             self.assertIn(f"--- summary of {leg}\n# Summary\n", done.stdout)
         self.assertIn("deploying main\n", done.stdout)
@@ -84,7 +84,7 @@ class Example(TryCase):
         self.git("init", "-q", "-b", "main", folder=outer)
         done = self.attempt("-n", folder=outer / "example")
         self.assert_status(done, 0)
-        self.assertTrue(done.stdout.startswith("CI (.github/workflows/ci.yml)\n  job test\n    leg 0: test (3.10)\n"), done.stdout)
+        self.assertTrue(done.stdout.startswith("CI (.github/workflows/ci.yml)\n  job test\n    leg 0: test (3)\n"), done.stdout)
 
 
 @NEEDS_PROGRAM
@@ -156,7 +156,7 @@ class Steps(TryCase):
         self.assertEqual(list((self.work() / "play" / "legs").iterdir()), [])
 
     def test_the_one_tree_that_is_left_is_named(self) -> None:
-        self.workflow("- run: exit 1", WORKFLOW.replace("  one:\n", "  two: {needs: one, steps: [{run: 'true'}]}\n  one:\n"))
+        self.workflow("- run: exit 1", WORKFLOW.replace("  one:\n", "  two: {needs: one, runs-on: x, steps: [{run: 'true'}]}\n  one:\n"))
         done = self.attempt()
         self.assert_status(done, 1)
         tree = Path(re.search(r"(?m)^tree +(.+)$", done.stdout)[1])
@@ -237,7 +237,7 @@ class Steps(TryCase):
             self.assertEqual(path.stat().st_mode & 0o777, 0o600, path)
 
     def test_a_secret_that_the_lines_of_the_program_have(self) -> None:
-        self.workflow("- run: echo one\n- run: echo up; exit 3")
+        self.workflow("- run: echo one\n- run: echo up; exit 3\n  env: {A: '${{ secrets.SHORT }}', B: '${{ secrets.ONE }}'}")
         for secret in ("0", "x", "act", "abc123", "step"):
             with self.subTest(secret):
                 done = self.attempt("-s", "ONE=another", "-s", f"SHORT={secret}")
@@ -250,9 +250,7 @@ class Steps(TryCase):
         self.workflow("- run: ':'\n- run: printf 'caf\\xe9\\n'\n- run: ':'\n- name: again\n  run: printf '\\xff'\n- run: echo end")
         done = self.attempt()
         self.assert_status(done, 0)
-        play = f"{self.work()}/play"
-        self.assertIn(f"--- one: printf 'caf\\xe9\\n'\n(output is not UTF-8: {play}/step-0-1.log has it, unmasked)\n\n"
-                      f"--- one: again\n(output is not UTF-8: {play}/step-0-3.log has it, unmasked)\n\n--- one: echo end\nend\n", done.stdout)
+        self.assertIn("--- one: printf 'caf\\xe9\\n'\ncaf\ufffd\n\n--- one: again\n\ufffd\n\n--- one: echo end\nend\n", done.stdout)
 
     def test_uncommitted_files_links_and_odd_names(self) -> None:
         self.workflow("""
@@ -358,8 +356,6 @@ class InSandbox(TryCase):
     echo x > "$HOME/planted"
     echo x > '{self.home}/planted'
     test ! -e '{self.home}/private-note'
-    touch /etc/planted && exit 1
-    touch /usr/planted && exit 1
     test ! -w /proc/sys/kernel/core_pattern
     test -z "$(find /run -type s ! -path '/run/systemd/resolve/*' ! -path '/run/nscd/*')"
     test ! -e '{self.home}/project'
@@ -383,7 +379,7 @@ class InSandbox(TryCase):
         tool.chmod(0o755)
         self.workflow("- run: own-tool\n  continue-on-error: true\n- run: own-tool")
         path = f"{tool.parent}:{self.home}/.tools/two:{os.environ['PATH']}:/nowhere:{self.home}"
-        note = re.compile(f"note: the sandbox hides programs in {self.home}/.tools[;,] .*--no-sandbox shows them\n")
+        note = re.compile(f"note: the command was not found, and the sandbox hides programs in {self.home}/.tools[:,] .*--no-sandbox .*\n")
         self.assertEqual(len(note.findall(self.attempt(PATH=path).stderr)), 1)
         done = self.attempt("--no-sandbox", PATH=path)
         self.assert_status(done, 0)
@@ -403,12 +399,6 @@ class InSandbox(TryCase):
         self.assert_status(self.attempt(), 0)
         found = subprocess.run(["pgrep", "-f", rf"^sleep 4321\.{os.getpid()}$"], capture_output=True, check=False)
         self.assertEqual(found.stdout, b"")
-
-    def test_sudo_says_what_to_do(self) -> None:
-        self.workflow("- run: sudo -E touch /usr/planted")
-        done = self.attempt()
-        self.assert_status(done, 1)
-        self.assertIn("`actrun try --no-sandbox`", done.stdout)
 
     def test_without_sandbox_nothing_is_hidden(self) -> None:
         (self.home / "note").write_text("mine\n", encoding="utf-8")
@@ -484,11 +474,10 @@ class Interrupted(TryCase):
         self.assertEqual(status, 128 + number, out + err)
         name = "Ctrl-C" if number == signal.SIGINT else signal.Signals(number).name
         self.assertIn(f"{name}: the steps are being ended", err)
-        self.assertIn(f"long, stopped by {name}, ", err)
-        self.assertIn(f"\nstopped by {name}\n", out)
+        self.assertIn(f"\n⊘ one: long, stopped by {name}, ", err)
         self.assertIn("first\n", out)
-        self.assertNotIn("\nafter\n", out)
-        self.assertRegex(out, r"step 1 \(long\) failed at line \d+: the program ended with")
+        self.assertIn("\nafter\n", out)  # (its step has always())
+        self.assertRegex(out, rf"step 1 \(long\) failed at line \d+: the program ended with \d+; stopped by {name} ")
         self.assertIn("timeline", out)
         found = subprocess.run(["pgrep", "-f", rf"^sleep 6[01]\.{os.getpid()}$"], capture_output=True, check=False)
         self.assertEqual(found.stdout, b"")
@@ -547,11 +536,12 @@ class BadInput(TryCase):
 
     def test_a_workflow_without_events(self) -> None:
         self.workflow("- run: 'true'", WORKFLOW.replace("on: push\n", ""))
-        self.assert_error(self.attempt(), 2, "no workflow names an event: write `on: push` into .github/workflows/ci.yml\n")
+        self.assert_error(self.attempt(), 2, ".github/workflows/ci.yml:1: `on` is missing: write it at the top of the file\n")
+        self.assert_error(self.attempt("--lenient"), 2, "no workflow names an event: write `on: push` into .github/workflows/ci.yml\n")
 
     def test_an_error_of_the_program_names_the_workflow(self) -> None:
         self.workflow("- name: nothing to do")
-        done = self.attempt("-n")
+        done = self.attempt("-n", "--lenient")
         self.assert_error(done, 2, "actrun: flow .github/workflows/ci.yml Missing\n", "ci.yml:6: jobs.one.steps.0: ")
         self.assertNotIn("private", done.stderr)
 
@@ -576,7 +566,7 @@ class BadInput(TryCase):
         self.assert_error(self.attempt("--matrix", "one.pyton=[1]"), 2, "--matrix one.pyton: no job has this variable in its matrix")
         self.assert_error(self.attempt("--stub", "action/checkout=/bin/true"), 2,
                           "--stub action/checkout=/bin/true: no workflow of the event push uses this action; did you mean actions/checkout@v4?")
-        self.write(".actrunrc", "--stub some/action=/bin/true\n--matrix two.v=[1]\n")  # (of other workflows)
+        self.write(".actrunrc", "--stub some/action=./stub\n--matrix two.v=[1]\n")  # (of other workflows)
         self.assert_status(self.attempt("-n", "--stub", "actions/checkout=/bin/true"), 0)
 
     def test_a_job_does_not_ask_for_what_others_need(self) -> None:
@@ -610,7 +600,7 @@ class BadInput(TryCase):
 
     def test_a_refused_workflow_keeps_no_other_from_being_executed(self) -> None:
         self.write(".github/workflows/a.yml", "on: push\njobs:\n  a:\n    strategy: {matrix: \"${{ fromJSON(needs.x.outputs.m) }}\"}\n"
-                                              "    steps: [{uses: a/b@v1}]\n")
+                                              "    runs-on: x\n    steps: [{uses: a/b@v1}]\n")
         self.workflow("- run: echo through")
         done = self.attempt("--stub", "a/b=true")
         self.assert_status(done, 2)
@@ -621,7 +611,8 @@ class BadInput(TryCase):
         self.assert_error(done, 2, "actrun: .github/workflows/a.yml:4: matrix of job a is ", "--matrix a.matrix=JSON\n")
 
     def test_a_workflow_that_the_program_cannot_plan_keeps_no_other_from_being_executed(self) -> None:
-        self.write(".github/workflows/a.yml", "on: push\njobs:\n  a:\n    needs: b\n    steps: [{run: a}]\n  b:\n    needs: a\n    steps: [{run: b}]\n")
+        self.write(".github/workflows/a.yml", "on: push\njobs:\n  a:\n    needs: b\n    runs-on: x\n    steps: [{run: a}]\n"
+                                              "  b:\n    needs: a\n    runs-on: x\n    steps: [{run: b}]\n")
         self.workflow("- run: echo through")
         done = self.attempt()
         self.assert_status(done, 2)
@@ -630,7 +621,7 @@ class BadInput(TryCase):
         self.assertIn(cycle, done.stderr)
         self.assertIn("note: 1 of 2 workflows cannot be planned: the others go on, and the status is 2\n", done.stderr)
         self.workflow("- name: nothing to do")
-        self.assert_error(self.attempt(), 2, f"actrun: {cycle}", "flow .github/workflows/ci.yml Missing\n")
+        self.assert_error(self.attempt("--lenient"), 2, f"actrun: {cycle}", "flow .github/workflows/ci.yml Missing\n")
 
     def test_secret_file(self) -> None:
         self.workflow("- run: 'true'")
@@ -667,13 +658,16 @@ class BadInput(TryCase):
         self.workflow("- run: 'true'")
         (self.project / "big").write_bytes(bytes(range(256)) * 4096)
         done = self.attempt(XDG_CACHE_HOME=str(small))
-        self.assert_error(done, 3, str(small), "No space left on device", "XDG_CACHE_HOME")
+        self.assert_status(done, 3)  # (wherever the copy fails)
+        for text in (str(small), "No space left on device", "XDG_CACHE_HOME"):
+            self.assertIn(text, done.stderr)
+        self.assertNotIn("Traceback", done.stderr)
         (self.project / "big").unlink()
         self.workflow("- run: head -c 1000000 /dev/zero > big")
         done = self.attempt(XDG_CACHE_HOME=str(small))
         self.assertNotIn("Traceback", done.stderr)
-        self.assertIn("No space left on device", done.stdout + done.stderr)
-        self.assertNotEqual(done.returncode, 0)
+        self.assertIn("No space left on device", done.stderr)
+        self.assertEqual(done.returncode, 3)
 
     def test_closed_output(self) -> None:
         self.workflow("- run: seq 5000")

@@ -9,6 +9,7 @@ import io
 import os
 import signal
 import tempfile
+import time
 import unittest
 from pathlib import Path
 
@@ -18,6 +19,7 @@ from actrun_front.environment import PASSED, settle
 from actrun_front.execute import Execution, read_progress
 from actrun_front.planning import Flow, job_rows
 from actrun_front.present import Board, Screen, legs_of, mask, one_line, placed, summaries, table
+from actrun_front.keeping import PROTECTED, boot
 from actrun_front.tree import Facts, Room, clean, find_project, find_top, make_room, parse_remote, read_facts, short_name, write_config
 from actrun_front.yaml_reader import read_document
 from .try_case import TryCase
@@ -70,7 +72,7 @@ class Options(TryCase):
         self.addCleanup(os.environ.pop, "XDG_CONFIG_HOME")
         found = self.complete("--var", "B=line")
         self.assertEqual((found.workers, found.vars, found.no_sandbox), (5, {"A": "tree", "B": "line"}, True))
-        self.assertEqual(found.named_stubs, {"a/b": f"{self.project}/./stub".replace("/./", "/")})
+        self.assertEqual(found.named_stubs, {"a/b": "$GITHUB_WORKSPACE/stub"})
         self.assertEqual(self.complete("--workers", "7").workers, 7)
 
     def test_rc_file_with_a_word(self) -> None:
@@ -88,10 +90,10 @@ class Options(TryCase):
 
     def test_an_option_that_stands_twice(self) -> None:
         for words in (["-j", "a", "--job", "b"], ["-W", "a", "-W", "b"], ["--env-file", "a", "--env-file", "b"], ["--workers=1", "--workers", "2"]):
-            with self.assertRaisesRegex(Problem, f"{words[-2]} stands twice: only one can count"):
+            with self.assertRaisesRegex(Problem, f"{words[-2]} is given twice: give it once"):
                 self.complete(*words)
         self.write(".actrunrc", "--workers 3\n--workers 4\n")
-        with self.assertRaisesRegex(Problem, r"\.actrunrc: --workers stands twice"):
+        with self.assertRaisesRegex(Problem, r"\.actrunrc: --workers is given twice"):
             self.complete()
         self.write(".actrunrc", "--workers 3\n-j a\n")
         chosen = self.complete("--workers", "4", "-s", "A=1", "-s", "B=2")
@@ -222,6 +224,20 @@ class Contexts(TryCase):
         self.assertEqual((found["github"]["token"], found["secrets"]), ("t0ken", {"GITHUB_TOKEN": "t0ken"}))
         self.assertEqual(contexts(self.play("push"), "ci.yml", {})["secrets"], {"GITHUB_TOKEN": ""})
 
+    def test_numbers_of_users_and_repositories(self) -> None:
+        first, second = (contexts(self.play("push"), "ci.yml", {})["github"] for _ in range(2))
+        names = ("actor_id", "repository_id", "repository_owner_id")
+        self.assertEqual([first[name] for name in names], [second[name] for name in names])
+        self.assertTrue(all(first[name].isdigit() and len(first[name]) == 9 for name in names))
+        event = first["event"]
+        self.assertEqual([str(event["sender"]["id"]), str(event["repository"]["id"]), str(event["repository"]["owner"]["id"])],
+                         [first[name] for name in names])
+        self.git("remote", "set-url", "origin", "git@github.com:octo/other.git")
+        other = contexts(self.play("push"), "ci.yml", {})["github"]
+        self.assertEqual([other[name] == first[name] for name in names], [True, False, True])
+        data = {"sender": {"id": 1}, "repository": {"id": 2, "owner": {"id": 3}}}
+        self.assertEqual([contexts(self.play("push", data), "ci.yml", {})["github"][name] for name in names], ["1", "2", "3"])
+
     def test_schedule_and_dispatch(self) -> None:
         facts = read_facts(self.project, True)
         event = payload("schedule", facts, [{"cron": "0 3 * * *"}, {"cron": "x"}], "ci.yml", {})
@@ -253,9 +269,9 @@ class Inputs(unittest.TestCase):
         found = read_inputs(self.TRIGGER, {"DRY": "true", "count": "-12", "level": "high", "word": "1"}, "ci.yml")
         self.assertEqual((found["dry"], found["count"], found["level"], found["word"]), (True, -12, "high", "1"))
 
-    def test_fractions_stay_texts(self) -> None:
+    def test_fractions_are_texts(self) -> None:
         found = read_inputs({"inputs": {"a": {"type": "number", "default": "1.5"}, "b": {"type": "number"}}}, {"b": "-1e3"}, "ci.yml")
-        self.assertEqual(found, {"a": "1.5", "b": "-1e3"})
+        self.assertEqual(found, {"a": "1.5", "b": -1000})
 
     def test_a_type_that_is_no_text(self) -> None:
         self.assertEqual(read_inputs({"inputs": {"a": {"type": ["boolean"]}}}, {}, "ci.yml"), {"a": ""})
@@ -274,7 +290,7 @@ class Payloads(TryCase):
 
     def test_numbers_that_a_plan_cannot_hold(self) -> None:
         file = self.write("event", '{"a": [1.5, 9007199254740992, true, null, 7, 3.10]}')
-        self.assertEqual(read_payload(file), {"a": ["1.5", "9007199254740992", True, None, 7, "3.10"]})
+        self.assertEqual(read_payload(file), {"a": ["1.5", "9007199254740992", True, None, 7, "3.1"]})
         with self.assertRaisesRegex(Problem, "event: an object was expected"):
             read_payload(self.write("event", "[]"))
 
@@ -382,7 +398,7 @@ class Signals(unittest.TestCase):
         self.addCleanup(signal.signal, signal.SIGHUP, signal.signal(signal.SIGHUP, signal.SIG_IGN))
         lines: list[str] = []
         board = argparse.Namespace(progress=lines.append, output=lambda line: (os.kill(os.getpid(), signal.SIGHUP), lines.append(line)))
-        execution = Execution(Path("/nowhere/stopped"), board)
+        execution = Execution(None, board)
         self.assertEqual(execution.run(["/bin/sh", "-c", "echo begun; sleep 0.2; echo through"], {}, Path("/dev/null")), 0)
         self.assertEqual((lines, execution.signals), (["begun", "through"], []))
 
@@ -481,16 +497,16 @@ class Rooms(TryCase):
     def test_only_unused_folders_are_removed(self) -> None:
         parent = self.home / "work"
         parent.mkdir()
-        made = [make_room(parent, f"n{number}") for number in range(4)]
-        for place, room in enumerate(made):
-            os.utime(room.folder, (place, place))
+        made = [make_room(parent, f"n{number}") for number in range(8)]
+        for room in made[1:]:
+            (room.folder / "ended").write_text(f"{boot()} {time.clock_gettime(time.CLOCK_BOOTTIME) - 2 * PROTECTED} 0\n", encoding="ascii")
         locked = made[1].play / "locked" / "inside"
         locked.mkdir(parents=True)
         locked.parent.chmod(0o555)
         for room in made[1:]:
             room.lock.close()
-        clean(parent, 1)
-        self.assertEqual(sorted(path.name[:2] for path in parent.iterdir()), ["n0", "n3"])
+        clean(parent, made[2].folder)
+        self.assertEqual(sorted(path.name[:2] for path in parent.iterdir()), ["n0", "n2", "n3", "n4", "n5", "n6", "n7"])
         made[0].lock.close()
 
     def test_names(self) -> None:

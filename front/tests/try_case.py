@@ -1,6 +1,7 @@
 """A home folder with a repository for tests of `actrun try`, and the way to call it."""
 from __future__ import annotations
 
+import functools
 import os
 import shutil
 import subprocess
@@ -21,6 +22,7 @@ jobs:
 """
 
 
+@functools.lru_cache(maxsize=None)
 def sandbox_works() -> bool:
     """Whether bwrap can make a room here."""
     words = ["bwrap", "--ro-bind", "/", "/", "--proc", "/proc", "--unshare-pid", "/bin/true"]
@@ -29,6 +31,8 @@ def sandbox_works() -> bool:
 
 class TryCase(unittest.TestCase):
     """A test with a home folder of its own, in which a repository can be made."""
+
+    workspace = ("--workspace", "full")  # so that no workflow of a test needs actions/checkout; () where it is about the workspace
 
     def setUp(self) -> None:
         self.room = Path(tempfile.mkdtemp(prefix="actrun-try-", dir=os.environ.get("ACTRUN_TEST_FOLDER"))).resolve()
@@ -70,8 +74,9 @@ class TryCase(unittest.TestCase):
         self.git("commit", "-q", "-m", "first: all")
 
     def command(self, *words: str) -> list[str]:
-        """The words that start `actrun try`."""
-        return [sys.executable, str(FRONT), "try", *words]
+        """The words that start `actrun try`; where no sandbox can be made, the tests' own workflows are executed without."""
+        in_place = {"--in-place", "--workspace"} & set(words)
+        return [sys.executable, str(FRONT), "try", *([] if sandbox_works() else ["--no-sandbox"]), *words, *(() if in_place else self.workspace)]
 
     def attempt(self, *words: str, folder: Path | None = None, **environment: str) -> subprocess.CompletedProcess[str]:
         """Calls `actrun try` in the project."""
