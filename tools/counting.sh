@@ -1,6 +1,9 @@
 # Runs commands whose last line is `N passed, M failed`, and adds up what they say. Read by test and ../.ci/run.
 # shellcheck shell=bash disable=SC2034
 
+# shellcheck source=tools/packages.sh
+. tools/packages.sh
+
 passed=0 failed=0 status=0
 
 # adds the last line of a file, which a command wrote that ended with a status; the command failed where either says so
@@ -37,19 +40,23 @@ tell_minutes() {
 # installs the packages that tests need where they are missing, or says which those are; the tests then fail, or say that they
 # are skipped
 need_packages() {
-  local missing=()
-  python3 -c 'import ruamel.yaml' 2>/dev/null || /usr/bin/python3 -c 'import ruamel.yaml' 2>/dev/null || missing+=(python3-ruamel.yaml)
-  command -v bwrap >/dev/null || missing+=(bubblewrap)
-  command -v git >/dev/null || missing+=(git)
+  local missing=() as_root=() name
+  mapfile -t missing < <(missing_of_try)
+  command -v node >/dev/null || missing+=(nodejs)
   command -v chromedriver >/dev/null || missing+=(chromium chromium-driver)
   [ -d /usr/lib/python3/dist-packages/selenium ] || missing+=(python3-selenium)
   # (the gate alone drives an editor)
   [ -z "${ACTRUN_ALL_TESTS-}" ] || dpkg -s elpa-dap-mode >/dev/null 2>&1 || missing+=(emacs-nox elpa-dap-mode)
+  # (nor needs an ordinary test an engine for containers)
+  if [ -n "${ACTRUN_ALL_TESTS-}" ]; then
+    for name in podman:podman runc:runc fuse-overlayfs:fuse-overlayfs newuidmap:uidmap busybox:busybox-static redis-server:redis-server; do
+      command -v "${name%:*}" >/dev/null || missing+=("${name#*:}")
+    done
+  fi
   [ "${#missing[@]}" -gt 0 ] || return 0
   if [ "$(id -u)" -eq 0 ] && command -v apt-get >/dev/null; then
     echo "installing ${missing[*]}"
-    { apt-get install -y -qq "${missing[@]}" || { apt-get update -qq && apt-get install -y -qq "${missing[@]}"; }; } \
-      </dev/null >/dev/null && return
+    add_packages "${missing[@]}" && return
   fi
   echo "the tests need packages that are missing: apt-get install ${missing[*]}"
   return 1

@@ -6,7 +6,7 @@ say() { printf 'actrun: %s\n' "$1" >&2; }
 
 # whether a command is one of the front's
 is_of_front() {
-  case $1 in try | from-yaml | dap | report) ;; *) is_by_time "$@" ;; esac
+  case $1 in try | from-yaml | dap | report | open) ;; *) is_by_time "$@" ;; esac
 }
 
 # whether a command is a timeline by time
@@ -35,7 +35,7 @@ has_word() {
 # whether a command is answered without the program
 needs_no_program() {
   is_of_front "$@" || return
-  has_word --help "$@" || has_word -h "$@" || { [ "$1" = from-yaml ] && ! has_word --lower "$@"; }
+  [ "$1" = open ] || has_word --help "$@" || has_word -h "$@" || { [ "$1" = from-yaml ] && ! has_word --lower "$@"; }
 }
 
 # whether the words ask how a command is used, which docs/commands.txt says
@@ -66,6 +66,8 @@ start_front() {
     exit 3
   fi
   tell_front
+  # (Ctrl-C while Python begins would show how that works inside: the front lets it through)
+  ! env --block-signal=INT true 2>/dev/null || exec env --block-signal=INT python3 "$top/front" "$@"
   exec python3 "$top/front" "$@"
 }
 
@@ -74,9 +76,10 @@ start_front() {
 # its own, ignores no more signals than this script, and ends where this script is killed.
 choose_starter() {
   local signals=CHLD ignored
-  starter=() record=''
+  starter=() record='' work=. made='' locked=''
   [ "$1" = run ] || return 0
   read_words "${@:2}"
+  lock_places
   if [ -n "$record" ]; then
     ignored=$(trap -p INT QUIT)
     [[ $ignored == *SIGINT* ]] || signals+=,INT
@@ -89,8 +92,8 @@ choose_starter() {
   record=''
 }
 
-# Reads the words of `run`, and sets `record` to the value of this option. An empty name of a file that `run` writes is refused before
-# anything is executed; a folder that is not there is told.
+# Reads the words of `run`, and sets `record` and `work` to the values of these options. A name of a file that `run` cannot write is
+# refused before anything is executed; a folder that is not there is reported.
 read_words() {
   local name value
   while [ $# -gt 0 ] && [ "$1" != -- ]; do
@@ -109,19 +112,96 @@ read_words() {
         exit 2
         ;;
       --record,*) record=$value ;;
-      --work,?*) [ -d "$value" ] || say "--work $value: no step can start, for this is no folder: name one that is there" ;;
+      --work,?*)
+        work=$value
+        [ -d "$value" ] || say "--work $value: no step can start, for this is no folder: name one that is there"
+        ;;
     esac
     shift
   done
+  check_record
 }
 
-# starts the program; on a terminal the front explains what it refuses
+# refuses a record that nothing keeps, and one that would grow in a pipe, which nobody reads
+check_record() {
+  if [ "$record" -ef /dev/null ]; then
+    say "--record $record keeps no record, and nothing was executed: leave this option out, or name a file"
+    exit 2
+  fi
+  if [ -n "$record" ] && [ -e "$record.part" ] && [ ! -f "$record.part" ] && [ ! -d "$record.part" ]; then
+    say "$record.part is no regular file, and nothing was executed: remove it, or name another record"
+    exit 2
+  fi
+}
+
+# Locks the folder of --work, and the file in which the record grows, until this script and the program have ended: two runs in one
+# folder would execute the scripts of each other. Steps inherit no lock. Without a file of its own a lock leaves nothing behind.
+lock_places() {
+  local file
+  if ! command -v flock >/dev/null; then
+    say "flock (of util-linux) is missing, so nothing is locked: let no other run use the same --work or --record meanwhile"
+    return
+  fi
+  if [ -d "$work" ] && { exec {file}<"$work"; } 2>/dev/null; then take_lock "$file" 'uses this folder' --work "$work"; fi
+  [ -z "$record" ] || [ -p "$record" ] || [ -S "$record" ] || [ -c "$record" ] || [ -b "$record" ] || lock_record
+}
+
+# Locks the file in which the record grows. A run that ends removes this file, so that another one may have its name meanwhile.
+lock_record() {
+  local part=$record.part
+  [ ! -L "$record" ] || part=$(readlink -m -- "$record").part
+  for _ in {1..100}; do
+    [ -e "$part" ] || made=$part
+    { exec {locked}<>"$part"; } 2>/dev/null || return 0 # (the program says why)
+    take_lock "$locked" 'writes this record' --record "$record"
+    [ ! "/proc/self/fd/$locked" -ef "$part" ] || return 0
+    exec {locked}>&-
+  done
+}
+
+# locks a descriptor, or says which process has locked the same, and what it does with the value of an option
+take_lock() {
+  local owner
+  flock -n "$1" 2>/dev/null
+  case $? in
+    0) ;;
+    1)
+      owner=$(lock_owner "/proc/$$/fd/$1")
+      say "$3 $4: another run${owner:+ (process $owner)} $2, and nothing was executed: name another by $3"
+      exit 2
+      ;;
+    *) say "$3 $4 cannot be locked here: let no other run use it meanwhile" ;;
+  esac
+}
+
+# prints a process that has locked the file behind a descriptor
+lock_owner() {
+  local at
+  for at in /proc/[0-9]*/fd/*; do
+    [ "$at" -ef "$1" ] && grep -q '^lock:.*FLOCK' "${at/fd/fdinfo}" 2>/dev/null || continue
+    at=${at#/proc/}
+    printf '%s\n' "${at%%/*}"
+    return
+  done
+}
+
+# whether a command only prints a text
+is_text() {
+  case $1 in why | list | lint | table | replay | plan | graph | timeline | eval) [ -e "$top/front/actrun_front/visible.py" ] ;; *) false ;; esac
+}
+
+# starts the program; on a terminal the front explains what it refuses, and shows what would steer the terminal as pictures
 start_program() {
+  if [ -t 1 ] && is_text "$1" && has_front; then
+    (start_program "$@") | python3 "$top/front/actrun_front/visible.py"
+    exit "${PIPESTATUS[0]}"
+  fi
   choose_starter "$@"
   if [ -t 2 ] && has_front; then explain_program "$@"; fi
   [ -n "$record" ] || exec "${starter[@]}" "$program" "$@"
   watch_program "$@"
   status=$?
+  drop_empty
   tell_end
   [ -n "$stopped" ] || [ "$status" -le 128 ] || kill -s "$(kill -l "$status")" $$
   exit "$status"
@@ -141,6 +221,7 @@ explain_program() {
   status=$?
   exec 3>&-
   wait "$shows" 2>/dev/null
+  drop_empty
   case $status in
     2 | 3)
       tell_front
@@ -151,7 +232,7 @@ explain_program() {
   exit "$status"
 }
 
-# Runs the program beside this script, which ends it and its steps at SIGINT, SIGTERM or SIGHUP, since the program sees no signals.
+# Runs the program beside this script, which ends it and its steps at SIGINT, SIGQUIT, SIGTERM or SIGHUP, since the program sees no signals.
 # Then `stopped` is the exit status.
 watch_program() {
   local ended
@@ -162,22 +243,51 @@ watch_program() {
   trap 'stop_run 130' INT
   trap 'stop_run 143' TERM
   trap 'stop_run 129' HUP
+  trap 'stop_run 131' QUIT
   wait "$child" 2>/dev/null
   ended=$?
-  trap - INT TERM HUP
+  trap - INT TERM HUP QUIT
   return "${stopped:-$ended}"
 }
 
-# prints what is different of the file in which a record grows, where the program has made it anew
+# removes the file in which the record should have grown, where this script has made it and the program wrote nothing
+drop_empty() {
+  [ -z "$made" ] || [ -s "$made" ] || [ ! "/proc/self/fd/$locked" -ef "$made" ] || rm -f -- "$made"
+}
+
+# prints what is different of the file in which a record grows, where the program has made it again
 mark_part() {
   stat -c '%i %s %y' -- "$record.part" 2>/dev/null
 }
 
-# Where a signal ended the program, says what has the record so far, why it is as it is, and what the running steps printed.
+# Where a signal ended the program, says what has the record so far, why it is as it is, and what the running steps printed. Where the
+# system ended the run, says so: the status is 3 then.
 tell_end() {
-  local log
+  local log folder
   tell_part
   for log in "${logs[@]}"; do say "$log has what its step printed so far, unmasked"; done
+  case $status in
+    1)
+      for folder in "$work" "$(dirname -- "${record:-$work/.}")"; do
+        is_full "$folder" || continue
+        say "ended by the system: $folder: No space left on device: make room there, or name another place by --work and --record"
+        status=3
+        break
+      done
+      ;;
+    153)
+      say "ended by the system: a file reached the limit of \`ulimit -f\`: raise this limit"
+      status=3
+      ;;
+  esac
+}
+
+# whether the file system of a folder has no room, or no file more
+is_full() {
+  local blocks free open bytes files left
+  read -r blocks free open bytes files left < <(stat -f -c '%b %f %a %S %c %d' -- "$1" 2>/dev/null) || return
+  [ "$EUID" -eq 0 ] || free=$open
+  [ "$blocks" -gt 0 ] && [ "$((free * bytes))" -lt 16384 ] || { [ "$files" -gt 0 ] && [ "$left" -eq 0 ]; }
 }
 
 # says what has the record so far, and why it is as it is, in at most 30 lines; a line that the signal cut is left out
@@ -199,7 +309,7 @@ tell_part() {
 stop_run() {
   stopped=$1
   # (`timeout` sends its signal to this script and to its group: the second one at once is the same)
-  trap '' INT TERM HUP
+  trap '' INT TERM HUP QUIT
   # (it is no job any more, so that bash does not say how it ended)
   disown "$child"
   kill -STOP "$child"
@@ -208,7 +318,7 @@ stop_run() {
   end_session TERM
   sleep 0.1
   # shellcheck disable=SC2064
-  trap "end_session KILL; keep_printed; exit $1" INT TERM HUP
+  trap "end_session KILL; keep_printed; exit $1" INT TERM HUP QUIT
   for _ in {1..30}; do
     [ -n "$(in_session)" ] || break
     sleep 0.1
@@ -256,8 +366,18 @@ in_session() {
     awk -v session="$child" '{ it = $1; sub(/.*\) /, ""); if ($4 == session && $1 != "Z") print it }'
 }
 
+# sets `words` to a command with the record of the last execution of this repository in place of --last; fails where nothing is replaced
+name_last() {
+  case ${1-} in debug | why | report | timeline | graph | replay) ;; *) return 1 ;; esac
+  has_word --last "${@:2}" && has_front || return
+  mapfile -d '' -t words < <(ACTRUN_TOP=$top exec python3 "$top/front" last "$@")
+  wait "$!" || exit 2
+}
+
 # answers a command by the program that was chosen, or by the front
 answer() {
+  local words
+  if name_last "$@"; then set -- "${words[@]}"; fi
   if is_of_front "$@" || is_talk "$@"; then start_front "$@"; fi
   start_program "$@"
 }

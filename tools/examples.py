@@ -6,19 +6,30 @@
 An example is a line `$ COMMAND` in a block, with what it prints below it, both streams in one; a command goes on in the next
 line (after `> `) where the shell says that it is not whole. All commands of one document run in one shell, from the top of the
 repository. With --write the document gets what is printed now: look at the difference before it is kept. A block whose fence
-has the word `shown` is not played. The status is 1 where one differs.
+has the word `shown` is not played. A line `...` fits any lines, and `...` in a line fits any text.
+The status is 1 where one differs.
 """
 import os
+import re
 import subprocess
 import sys
 
 END = "@@example-ended@@"
+ANY_LINES = r"(?:.*\n)*?"
 
 
 def is_whole(command):
     """Whether the shell takes a command as whole."""
     ran = subprocess.run(["bash", "-n"], input=command, capture_output=True, text=True, check=False)
     return not ran.stderr and not command.endswith("\\\n")
+
+
+def fits(found, wanted):
+    """Whether what a command prints is what a document has."""
+    def line(text):
+        return ANY_LINES if text == "..." else ".*".join(map(re.escape, text.split("..."))) + "\\n"
+    lines = map(line, wanted)
+    return re.fullmatch("".join(lines), "".join(it + "\n" for it in found)) is not None
 
 
 def blocks(lines):
@@ -90,7 +101,9 @@ def play(name, writes):
             found = shell.run(command).split("\n")
             found = found[:-1] if found[-1] == "" else found
             count += 1
-            if found != wanted:
+            if fits(found, wanted):
+                found = wanted
+            else:
                 differ += 1
                 if not writes:
                     print(f"{name}:{first + 1}: {command.rstrip()}", *[f"- {it}" for it in wanted], *[f"+ {it}" for it in found], sep="\n")
@@ -109,7 +122,7 @@ def main():
     all_differ = 0
     for name in [it for it in words if it != "--write"] or ["README.md", "docs/GUIDE.md"]:
         count, differ = play(name, writes)
-        print(f"{name}: {count} examples, {differ} {'written anew' if writes else 'differ'}")
+        print(f"{name}: {count} examples, {differ} {'written again' if writes else 'differ'}")
         all_differ += differ
     return 1 if all_differ and not writes else 0
 

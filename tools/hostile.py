@@ -15,7 +15,7 @@ Of each answer it is asked that
 - standard output is empty beside a fault, and else is what the command prints: a value, a plan, jobs by stages, what is to be known of
   the files that `lint` is given, in lines without a control character, a board, a graph, a picture that a reader of XML takes,
   which names nothing outside of it, a tree of reasons, answers of the debugger;
-- want of memory is not told, since there is memory;
+- out of memory is never reported, since there is memory;
 - a plan that was printed is read again by `table`;
 - a file that `lint` names alone is refused by it exactly where `plan` refuses it, by the same name;
 - `replay`, `graph`, `timeline` and `why` refuse a record exactly where `table` does, by the same line, but for one that is no entry:
@@ -23,7 +23,7 @@ Of each answer it is asked that
 - the status of `replay` fits its board, which is that of `table`, and to which the places of `--changes` lead; those of `graph`, whose
   braces and quotes are closed, and of `timeline` fit it too, and a row of `timeline` says how far the board has what it is for;
 - `why` refuses words that name nothing of what it knows, and where the plan has not what they name it tells that; else that is its
-  root; without such words it tells of each run and of each leg that ended, where that did not succeed, and no other is a root;
+  root; without such words it reports each run and each leg that ended, where that did not succeed, and no other is a root;
 - `debug` answers each line once.
 
 As many inputs are tried side by side as there are processors for this program (`taskset` lessens them). What offends is kept: each
@@ -156,12 +156,12 @@ def is_board(lines):
 
 
 def answers_of(out):
-    """How many answers of the debugger, of which a board is one, stand in what it printed."""
+    """How many answers of the debugger, a board among them, are in what it printed."""
     return sum(it.startswith("ends") or DEBUG_LINE.fullmatch(it) is not None for it in lines_of(out.decode()))
 
 
 def status_of_board(lines):
-    """The status with which `replay` tells of a board."""
+    """The status with which `replay` reports a board."""
     runs = [it.split(" ") for it in lines if it.startswith("run ")]
     if any(it[2] != "closed" for it in runs):
         return 4
@@ -289,7 +289,7 @@ def wrong_fault(tried, answer, line):
     if not told:
         return "standard error is not one line of the program's"
     if told[1] == "memory":
-        return "it told want of memory"
+        return "it reported out of memory"
     if told[1] in ("io", "words"):
         fits = answer.status == 3 and tried.free if told[1] == "io" else answer.status == 2 and tried.has_strange_words()
         return None if fits else f"it told {told[1]}, for which there is no reason"
@@ -385,7 +385,7 @@ def wrong_replay(tried, answer, board):
     if (told[-1:] in (["settled yes"], ["settled no"])) != (b"--settled" in tried.words):
         return "it tells whether the board is settled, and is not asked, or the other way round"
     if (told[:1] == ["place 0"]) != (b"--changes" in tried.words):
-        return "it tells of places, and is not asked, or the other way round"
+        return "it reports places, and is not asked, or the other way round"
     return None if lines == board else "table prints another board than replay"
 
 
@@ -395,7 +395,7 @@ def wrong_reasons(tried, answer, board):
     roots = [it for it in lines if not it.startswith(" ")]
     if subject:
         if has_subject(tried, subject) != (answer.status == 0):
-            return "it tells of what is not there, or the other way round"
+            return "it reports what is not there, or the other way round"
         begins = f"{subject[0]} {number_of(subject[-1])} ("
         return None if answer.status or len(roots) == 1 and roots[0].startswith(begins) else "its root is not what the words name"
     told, first = members_of(it.lstrip(" ") for it in lines), members_of(roots)
@@ -403,14 +403,14 @@ def wrong_reasons(tried, answer, board):
         # (the result stands behind `closed` of a run, and behind `ended` of a leg)
         has_succeeded = result[:1] == ["success"]
         if (kind == "run" or state == "ended") and not has_succeeded and (kind, number) not in told:
-            return f"it does not tell of {kind} {number}"
+            return f"it does not report {kind} {number}"
         if has_succeeded and (kind, number) in first:
             return f"{kind} {number} succeeded, and is a root"
     return None if answer.status == 0 else "it tells that nothing is there, and was asked about nothing"
 
 
 def members_of(lines):
-    """What lines of reasons tell of: kinds and numbers."""
+    """What lines of reasons report: kinds and numbers."""
     return {tuple(it.split(" ", 2)[:2]) for it in lines}
 
 

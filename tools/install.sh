@@ -36,12 +36,28 @@ put_parts() {
   done < <(parts)
   put 755 lib/actrun/actrun "$program" || return
   make_folder lib/actrun && echo lib/actrun/version >>"$list" &&
-    printf 'actrun %s\n%s\n%s\n' "$version" "$toolchain" "$(proved_or_not)" >"$prefix/lib/actrun/version" &&
+    version_text >"$prefix/lib/actrun/version" &&
     chmod 644 -- "$prefix/lib/actrun/version"
 }
 
+# the version, the commit of the sources and how the program was built; then the toolchain
+version_text() {
+  printf 'actrun %s (%s, %s)\n%s\n' "$version" "$(commit_of_sources)" "$(proved_or_not)" "$toolchain"
+}
+
+# the commit of the clone, if this is one
+commit_of_sources() {
+  local found
+  if [ "$(git -C "$top" rev-parse --show-toplevel 2>/dev/null)" = "$top" ] && found=$(git -C "$top" rev-parse --short=10 HEAD 2>/dev/null); then
+    [ -z "$(git -C "$top" status --porcelain --untracked-files=no 2>/dev/null)" ] || found+=' with changes'
+    echo "commit $found"
+  else
+    echo 'no commit'
+  fi
+}
+
 proved_or_not() {
-  case $program in */unproved/*) echo 'built without proofs' ;; *) echo proved ;; esac
+  case $program in '') echo 'not built' ;; */unproved/*) echo 'built without proofs' ;; *) echo proved ;; esac
 }
 
 # sets `prefix` to the whole path of a prefix
@@ -80,10 +96,14 @@ give_up() {
   exit "$1"
 }
 
-# --install [PREFIX]
+# --install [--yes] [PREFIX]
 install_below() {
-  local prefix list levels=0 above
-  set_prefix "$@"
+  local prefix list levels=0 above word yes=no words=()
+  for word; do if [ "$word" = --yes ]; then yes=yes; else words+=("$word"); fi; done
+  set_prefix ${words[@]+"${words[@]}"}
+  # shellcheck source=tools/packages.sh
+  . "$top/tools/packages.sh"
+  get_packages "$yes" || exit 3
   choose actrun || build_or_answer run
   [ ! -e "$prefix/lib/actrun/installed" ] || remove_below "$prefix" >/dev/null || exit
   stop_on_other_files
@@ -99,7 +119,7 @@ install_below() {
   trap - INT TERM HUP
   rm -f -- "$list"
   printf 'installed %s/bin/actrun (%s), its front, its manual and its completions\n' "$prefix" "$(proved_or_not)"
-  case :$PATH: in *":$prefix/bin:"*) ;; *) printf 'put %s/bin into PATH to start it by its name\n' "$prefix" ;; esac
+  case :$PATH: in *":$prefix/bin:"*) ;; *) printf 'to start it by its name: export PATH=%s/bin:$PATH\n' "${prefix@Q}" ;; esac
 }
 
 # removes what a list names below a prefix, and prints each thing that it removed
@@ -121,7 +141,7 @@ take_away() {
   take_levels "$1" "${levels:-0}"
 }
 
-# removes a folder and those above it, so many as the installation made, where they are empty
+# removes a folder and those above it that the installation made, if they are empty
 take_levels() {
   local folder=$1 level
   for ((level = 0; level < $2; level++)); do

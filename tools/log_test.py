@@ -106,7 +106,7 @@ class LongLogs(unittest.TestCase):
         self.assertEqual(self.shown.read_bytes(), b"(output is not UTF-8)\n" * 2 + b"run 0 success\n")
 
     def take_masks(self, masks: int, seconds: int) -> float:
-        """The seconds of a processor that `run` takes of a log of so many masks and five times as many lines."""
+        """The seconds of a processor that `run` takes of a log of that many masks and five times as many lines."""
         script = f"seq -f '::add-mask::secret-%.0f' 1000000 {999_999 + masks}; seq -f 'a secret-%.0f b' 1000000 {999_999 + 5 * masks}"
         most, took = self.execute(script, seconds=seconds)
         shown = self.shown.read_text().splitlines()

@@ -1,6 +1,6 @@
 """The plans of random_records.py, and what their texts mean.
 
-A text that is evaluated is one of a few, each of which stands beside what it means: a function of the contexts, which a place that
+A text that is evaluated is one of a few, each next to what it means: a function of the contexts, which a place that
 does not see one has as empty maps.
 """
 import json
@@ -31,7 +31,7 @@ def text_of(value):
 
 
 def of(contexts, *names):
-    """What stands in the contexts under names, or null."""
+    """What is in the contexts under names, or null."""
     found = contexts
     for name in names:
         found = found.get(name) if isinstance(found, dict) else None
@@ -58,7 +58,7 @@ def same(wanted, *names):
     return lambda it: of(it, *names) == wanted
 
 
-# templates: what stands in env, outputs, texts of calls, names of groups
+# templates: what is in env, outputs, texts of calls, names of groups
 TEXTS = {
     "x": lambda _: "x",
     "": lambda _: "",
@@ -143,7 +143,7 @@ CONDITIONS = {
 
 
 def value(text, contexts):
-    """The value of a template, or of what stands in env or `with` and is no text."""
+    """The value of a template, or of what is in env or `with` and is no text."""
     if not isinstance(text, str):
         return text
     meaning = TEXTS.get(text) or NAMES.get(text) or FLAGS[text]

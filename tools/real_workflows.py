@@ -17,6 +17,7 @@ from __future__ import annotations
 
 import argparse
 import glob
+import importlib
 import os
 import pathlib
 import re
@@ -192,7 +193,7 @@ def main() -> int:
 
 if __name__ == "__main__":
     try:
-        import ruamel.yaml  # noqa: F401
+        importlib.import_module("ruamel.yaml")
     except ImportError:
         if os.path.realpath(sys.executable) == os.path.realpath(SYSTEM_PYTHON):
             raise

@@ -1,16 +1,16 @@
 #!/usr/bin/env python3
-"""Refuses each growth of memory in turn, one a run, and sees what comes of it.
+"""Refuses each growth of memory in turn, one per run, and compares the result.
 
   tools/refused.py ACTRUN CONFORMANCE [WORD]
 
 ACTRUN and CONFORMANCE are the built programs (`rt ci` leaves them in crates/actrun/out and crates/conformance/out); with a WORD
 only the examples with that word in their name are played. Of each, for the Nth growth, N of 1 up to all that the program asks for:
 
-  commands    what is told is what is told with memory enough, or `actrun: memory` with status 3; `out` is empty then, but that
+  commands    what is printed is what is printed with memory enough, or `actrun: memory` with status 3; `out` is empty then, but that
               `debug` has its answers so far and `run` the text so far; a record that `run` wrote can be replayed
-  insist      an event that is refused for want of memory, on the plain board and on the flat one, by `apply` and by
+  insist      an event that is refused when out of memory, on the plain board and on the flat one, by `apply` and by
               `apply_with_undo`, is answered when it is played again as with memory enough, and so is all that follows
-  posts       likewise what is posted, begun and ended under the lock, where each event is posted twice, and the moves of a clerk,
+  posts       also what is posted, begun and ended under the lock, where each event is posted twice, and the moves of a clerk,
               who is asked more often than there are moves: the replies, the history and the board at the end are the same; an
               end that is refused gives the call back
   alone,      one thread, and one worker: the play is what it is with memory enough, or `Memory`; its history is a beginning of
@@ -131,7 +131,7 @@ class Programs:
 
 
 def told(programs, words, text, number, whole, is_told_early):
-    """Whether a command told its one line for want of memory; nothing but that and what it tells else may come out."""
+    """Whether a command told its one line when out of memory; nothing but that and what it tells else may come out."""
     found = programs.run(words, text, number)
     if found == whole:
         return False
@@ -188,7 +188,7 @@ def text_in(named, name):
 
 
 def lines_of(answer):
-    """The lines of what the only case of a file answered, which is told since the case wants something else; none where the
+    """The lines of what the only case of a file answered, which is printed since the case wants something else; none where the
     program says that it had no memory for them."""
     status, out, err = answer
     found = re.search(rb"\nfound, status (\d+):\n((?s:.*))\n0 cases agree, 1 differ\n", out)
@@ -249,7 +249,7 @@ def is_posted(lines, wanted):
 
 
 def is_alone(lines, wanted):
-    """Whether a play stopped for want of memory after a beginning of the play that is wanted; or there is none for its host."""
+    """Whether a play stopped when out of memory after a beginning of the play that is wanted; or there is none for its host."""
     if re.fullmatch(r"\d+ Memory", lines[-1]):
         return False
     if lines[-1] != "Memory" or lines[:-1] != wanted[: len(lines) - 1]:
@@ -258,7 +258,7 @@ def is_alone(lines, wanted):
 
 
 def is_pooled(lines, wanted):
-    """Whether a play stopped for want of memory, with a history that can be played again; or there is none for its host, or to
+    """Whether a play stopped when out of memory, with a history that can be played again; or there is none for its host, or to
     tell the board."""
     if re.fullmatch(r"\d+ Memory", lines[0]) or (lines[0] == wanted[0] and (lines[1] == "another board" or lines[-1] != wanted[-1])):
         return False

@@ -9,8 +9,8 @@ so, and of which nothing changed, nor of a crate below, is not proved again. No 
 the gate's alone.
 
 A crate gets up to three processors where others wait for it, so that the longest chain of crates, by the figures of
-tools/proof_costs.tsv, ends soon. A line is told for each crate that is proved, and for one that is not the end of what the prover
-said, all of which stands in crates/NAME/out/verdict. The status is 1 where a crate is not proved.
+tools/proof_costs.tsv, ends soon. A line is printed for each crate that is proved, and for one that is not the end of what the prover
+said. crates/NAME/out/verdict has all of it. The status is 1 where a crate is not proved.
 
 It works by the toolchain's own `rt`, which it loads as a module; the libraries serve `rt check` in the crates above too.
 """
@@ -67,13 +67,13 @@ def mark_of(crate):
 
 
 def is_built(rt, crate):
-    # (an `rt lib` after this run builds a library anew, and that file goes with it)
+    # (an `rt lib` after this run builds a library again, and that file goes with it)
     made = f"{crate.folder}/out/{crate.name if crate.is_program else 'rlib/statements'}"
     return os.path.exists(made) and rt.rtlib.text_of(mark_of(crate)) == crate.stamp()
 
 
 def prove(rt, crates, crate, jobs):
-    """Proves a crate by so many jobs, and returns whether it is proved."""
+    """Proves a crate by that many jobs, and returns whether it is proved."""
     os.makedirs(f"{crate.folder}/out", exist_ok=True)
     with open(f"{crate.folder}/out/verdict", "w+", encoding="utf-8", errors="replace") as crate.out:
         try:
