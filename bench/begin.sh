@@ -41,7 +41,7 @@ def job(number, run):
 
 
 def record(run, steps):
-    """The plan, and the entries that play so many steps of each of its jobs."""
+    """The plan, and the entries that execute that many steps of each of its jobs."""
     roots = {"github": {}, "inputs": {}, "secrets": {}, "vars": {}}
     jobs = [job(number, run) for number in range(JOBS)]
     yield line({"runs": [{"env": {}, "event": None, "flow": "begin", "group": None, "jobs": jobs, "roots": roots}],

@@ -47,7 +47,7 @@ def peak(words):
 
 
 def contexts(size):
-    """Contexts with texts, lists and JSON texts of about so many bytes."""
+    """Contexts with texts, lists and JSON texts of about that many bytes."""
     words = [f"word{k}" for k in range(size // 10)]
     items = json.dumps(words, separators=(",", ":"))[: -1]
     listed = json.loads(items[: items.rindex(",")] + "]") if len(items) > size - 64 else words

@@ -83,7 +83,7 @@ def job_of(matrix):
 
 
 def two_variables():
-    """256 times 256 combinations, of which the excludes leave 255."""
+    """256 times 256 combinations; the excludes leave 255."""
     values = list(range(256))
     return {"a": values, "b": values, "exclude": [{"a": 0, "b": 0}] + [{"a": place} for place in range(1, 256)]}
 

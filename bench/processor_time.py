@@ -20,7 +20,7 @@ sys.exit(0 if code in (0, 1, 4) else code)
 
 @contextlib.contextmanager
 def big_record(count, *shape):
-    """Lends the path of a record of so many entries, of the shape that big_record.py makes of these words."""
+    """Lends the path of a record of that many entries, of the shape that big_record.py makes of these words."""
     with tempfile.NamedTemporaryFile() as record:
         big = os.path.join(TOP, "bench/big_record.py")
         subprocess.run([sys.executable, big, str(count), *shape], stdout=record, check=True)

@@ -22,7 +22,7 @@ MOST = 256  # jobs of a workflow
 
 
 def prepare(jobs, script):
-    """Writes a plan, a Makefile and a build.ninja of so many jobs of one step."""
+    """Writes a plan, a Makefile and a build.ninja of that many jobs of one step."""
     flows = []
     for first in range(0, jobs, MOST):
         flows.append(f"./{first}.json")
@@ -49,7 +49,7 @@ def seconds(words):
 
 
 def least(workers, runs):
-    """The least time of each command, in so many runs of all."""
+    """The least time of each command, in that many runs of all."""
     run = [PROGRAM, "run", "--workers", str(workers), "--work", "work"]
     commands = {"run": [*run, "plan"], "run --record": [*run, "--record", "record", "plan"], "make": ["make", "-r", "-s", f"-j{workers}"]}
     if shutil.which("ninja"):

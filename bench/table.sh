@@ -38,7 +38,7 @@ def run(record):
 
 
 def best(count, words):
-    """The least seconds, the peak memory and the text's size on so many entries."""
+    """The least seconds, the peak memory and the text's size on that many entries."""
     with tempfile.NamedTemporaryFile() as record:
         big = os.path.join(top, "bench/big_record.py")
         subprocess.run([sys.executable, big, str(count)] + words, stdout=record, check=True)
