@@ -15,7 +15,7 @@ import time
 from pathlib import Path
 from typing import Any, Callable, Iterable
 
-from .execute import PATIENCE, program, send
+from .execute import PATIENCE, program, send, session
 from .expressions import Access, Rules, condition_expression, references, rewrite_condition, rewrite_template
 from .names import SEEN
 from .present import legs_of, step_name
@@ -57,18 +57,6 @@ def goes_on(condition: str | None) -> bool:
     calls = references(condition_expression(condition) or "")[1]
     negated = re.search(r"!\s*\(?\s*cancelled", condition or "", re.IGNORECASE)
     return "always" in calls or "cancelled" in calls and not negated
-
-
-def parents() -> dict[int, int]:
-    """All processes, each with its parent."""
-    found = {}
-    for path in Path("/proc").glob("[0-9]*/stat"):
-        try:
-            fields = path.read_text(encoding="utf-8", errors="replace").rpartition(")")[2].split()
-        except OSError:
-            continue
-        found[int(path.parent.name)] = int(fields[1])
-    return found
 
 
 def below(roots: Iterable[int], known: dict[int, int]) -> set[int]:
@@ -405,7 +393,7 @@ class Ender:
         child = self.execution.child if self.execution else None
         if child is None:
             return []
-        known = parents()
+        known = session(None)
         names = {number: environment_of(number).get(b"GITHUB_OUTPUT") for number in below([os.getpid()], known)}
         wanted = os.fsencode(self.play / f"step-{leg}-{step}.out")
         found = below([number for number, name in names.items() if name == wanted], known)

@@ -52,15 +52,15 @@ def read_progress(line: str) -> tuple[int, int, str, str, str] | None:
     return int(found[1]), int(found[2]), state, reason if state == "failure" else "", found["seconds"] or ""
 
 
-def session(leader: int) -> dict[int, int]:
-    """The processes of a session, each with its parent, as /proc has them."""
+def session(leader: int | None) -> dict[int, int]:
+    """The processes of a session, or all for None, each with its parent, as /proc has them."""
     found = {}
     for path in Path("/proc").glob("[0-9]*/stat"):
         try:
             fields = path.read_text(encoding="utf-8", errors="replace").rpartition(")")[2].split()
         except OSError:
             continue
-        if int(fields[3]) == leader:
+        if leader in (None, int(fields[3])):
             found[int(path.parent.name)] = int(fields[1])
     return found
 
