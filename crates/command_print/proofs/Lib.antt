@@ -1,12 +1,17 @@
 pub mod BoardAnswers
+pub mod ChangeLemmas
 pub mod Expressions
 pub mod Flows
+pub mod LegTexts
 pub mod Lines
 pub mod Linted
 pub mod LookedAt
 pub mod OneAnswer
 pub mod OneTelling
 pub mod Places
+pub mod RunTexts
 pub mod Settled
+pub mod Shapes
 pub mod SomeTelling
+pub mod Touching
 pub mod Unplanned

@@ -8,3 +8,4 @@ pub mod Planning
 pub mod Play
 pub mod Replay
 pub mod Table
+pub mod Touched

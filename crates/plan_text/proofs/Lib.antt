@@ -1,5 +1,4 @@
 mod BoardLaws
-pub mod ChangeLemmas
 mod LoadLemmas
 mod Numerals
 mod OneLine

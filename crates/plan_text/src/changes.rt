@@ -1,13 +1,13 @@
-//! What a board has otherwise than the board before it, as lines of its text.
+//! What a run, a job or a leg of a board has otherwise than on the board before it, as lines of the board's text.
 
-ghost use Rattle.std.specs.Prelude.{◌≡◌, ◌↔◌, ◌+◌, IfOk, IsTrue, OnOk};
+ghost use Rattle.std.specs.Prelude.{◌≡◌, ◌↔◌, IsTrue, OnOk};
 ghost use Rattle.plan_text.specs.BoardText.{Adds, job_line, run_line};
 ghost use Rattle.plan_text.specs.Changes as spec;
 
 use crate::board::{
-    after, write_ends, write_job_line, write_leg_line, write_run_line, write_step, write_texts_line,
+    write_ends, write_job_line, write_leg_line, write_run_line, write_step, write_texts_line,
 };
-use flow_model::{Board, DoneStep, Job, Leg, Run, Text, is_same_mapping};
+use flow_model::{DoneStep, Job, Leg, Run, Text, is_same_mapping};
 use std::alloc::{AllocError, Global};
 
 /// Whether two groups are one, or both are absent.
@@ -69,8 +69,8 @@ fn add_leg_change(
     write_texts_line(alloc, text, "out ", &leg.outputs)
 }
 
-/// Adds what a leg has otherwise than before.
-fn add_leg(
+/// Adds what a leg has otherwise than before: its line, the steps that it did not have, and its outputs.
+pub fn add_leg(
     alloc: Global,
     text: &mut String,
     number: u64,
@@ -85,29 +85,13 @@ fn add_leg(
     add_leg_change(alloc, text, number, before, leg)
 }
 
-/// Adds what legs have otherwise than before.
-fn add_legs(
-    alloc: Global,
-    text: &mut String,
-    first: u64,
-    before: &[Leg],
-    legs: &[Leg],
-) -> Result<(), AllocError>
-    ensures { OnOk result (spec.AddsOf (spec.TellsLegs first before.now legs.now) text.old text.new) }
-{
-    let mut number = first;
-    for (place, leg) in legs.iter().enumerate() {
-        let Some(was) = before.get(place) else {
-            return Ok(());
-        };
-        add_leg(alloc, text, number, was, leg)?;
-        number = after(number)?;
-    }
-    Ok(())
-}
-
 /// Adds the line of a job, if it is otherwise than before.
-fn add_job_line(text: &mut String, number: u64, before: &Job, job: &Job) -> Result<(), AllocError>
+pub fn add_job_line(
+    text: &mut String,
+    number: u64,
+    before: &Job,
+    job: &Job,
+) -> Result<(), AllocError>
     ensures { OnOk result (spec.AddsOf
         (spec.ToldUnless (before.now.state ≡ job.now.state) (job_line number job.now)) text.old text.new) }
 {
@@ -117,77 +101,8 @@ fn add_job_line(text: &mut String, number: u64, before: &Job, job: &Job) -> Resu
     write_job_line(text, number, job)
 }
 
-/// Adds what a job with its legs has otherwise than before.
-fn add_job(
-    alloc: Global,
-    text: &mut String,
-    first: (u64, u64),
-    before: &Job,
-    job: &Job,
-) -> Result<(), AllocError>
-    ensures { OnOk result (spec.AddsOf (spec.TellsJob first before.now job.now) text.old text.new) }
-{
-    add_job_line(text, first.0, before, job)?;
-    add_legs(
-        alloc,
-        text,
-        first.1,
-        before.legs.as_slice(),
-        job.legs.as_slice(),
-    )
-}
-
-/// The number after so many others. No memory holds more legs or jobs than a `u64` counts.
-fn after_all(number: u64, count: usize) -> Result<u64, AllocError>
-    ensures { IfOk result (λ next. next ≡ number + count) }
-{
-    match number.checked_add(count as u64) {
-        Some(next) => Ok(next),
-        None => Err(AllocError),
-    }
-}
-
-/// The numbers of the job after a job, and of its first leg.
-fn after_job(first: (u64, u64), job: &Job) -> Result<(u64, u64), AllocError>
-    ensures { IfOk result (λ next. next ≡ spec.after_job first job.now) }
-{
-    Ok((after(first.0)?, after_all(first.1, job.legs.len())?))
-}
-
-/// Adds what jobs have otherwise than before.
-fn add_jobs(
-    alloc: Global,
-    text: &mut String,
-    first: (u64, u64),
-    before: &[Job],
-    jobs: &[Job],
-) -> Result<(), AllocError>
-    ensures { OnOk result (spec.AddsOf (spec.TellsJobs first before.now jobs.now) text.old text.new) }
-{
-    let mut next = first;
-    for (place, job) in jobs.iter().enumerate() {
-        let Some(was) = before.get(place) else {
-            return Ok(());
-        };
-        add_job(alloc, text, next, was, job)?;
-        next = after_job(next, job)?;
-    }
-    Ok(())
-}
-
-/// The numbers of the first job and the first leg after some jobs.
-fn after_jobs(first: (u64, u64), jobs: &[Job]) -> Result<(u64, u64), AllocError>
-    ensures { IfOk result (λ next. next ≡ spec.after_jobs first jobs.now) }
-{
-    let mut leg = first.1;
-    for job in jobs {
-        leg = after_all(leg, job.legs.len())?;
-    }
-    Ok((after_all(first.0, jobs.len())?, leg))
-}
-
 /// Adds the line of a run, if it is otherwise than before.
-fn add_run_line(
+pub fn add_run_line(
     alloc: Global,
     text: &mut String,
     number: u64,
@@ -203,49 +118,8 @@ fn add_run_line(
     write_run_line(alloc, text, number, run)
 }
 
-/// Adds what a run with its jobs has otherwise than before.
-fn add_run(
-    alloc: Global,
-    text: &mut String,
-    first: (u64, (u64, u64)),
-    before: &Run,
-    run: &Run,
-) -> Result<(), AllocError>
-    ensures { OnOk result (spec.AddsOf (spec.TellsRun first before.now run.now) text.old text.new) }
-{
-    add_run_line(alloc, text, first.0, before, run)?;
-    add_jobs(
-        alloc,
-        text,
-        first.1,
-        before.jobs.as_slice(),
-        run.jobs.as_slice(),
-    )
-}
-
-/// Adds what runs have otherwise than before.
-fn add_runs(
-    alloc: Global,
-    text: &mut String,
-    before: &[Run],
-    runs: &[Run],
-) -> Result<(), AllocError>
-    ensures { OnOk result
-        (spec.AddsOf (spec.TellsRuns (0, (0, 0)) before.now runs.now) text.old text.new) }
-{
-    let mut next = (0, 0);
-    for (place, run) in runs.iter().enumerate() {
-        let Some(was) = before.get(place) else {
-            return Ok(());
-        };
-        add_run(alloc, text, (place as u64, next), was, run)?;
-        next = after_jobs(next, run.jobs.as_slice())?;
-    }
-    Ok(())
-}
-
 /// Adds the line of the legs that have ended since, in their order, if there are any.
-fn add_ends(text: &mut String, before: &[u64], ends: &[u64]) -> Result<(), AllocError>
+pub fn add_ends(text: &mut String, before: &[u64], ends: &[u64]) -> Result<(), AllocError>
     ensures { OnOk result (Adds text.old text.new (spec.later_ends before.now ends.now)) }
 {
     let Some(later) = ends.get(before.len()..) else {
@@ -255,19 +129,4 @@ fn add_ends(text: &mut String, before: &[u64], ends: &[u64]) -> Result<(), Alloc
         return Ok(());
     }
     write_ends(text, later)
-}
-
-/// Adds what a board has otherwise than the board before it, in the order of the board's text: the lines of the runs and
-/// jobs that changed; of each leg that changed its line, the steps that it did not have, and its outputs; last the legs that
-/// have ended since.
-pub fn add_changes(
-    alloc: Global,
-    text: &mut String,
-    before: &Board,
-    board: &Board,
-) -> Result<(), AllocError>
-    ensures { OnOk result (spec.AddsOf (spec.TellsChanges before.now board.now) text.old text.new) }
-{
-    add_runs(alloc, text, before.runs.as_slice(), board.runs.as_slice())?;
-    add_ends(text, before.ends.as_slice(), board.ends.as_slice())
 }

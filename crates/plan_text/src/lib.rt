@@ -25,7 +25,7 @@ mod tree;
 
 pub use board::board_text;
 pub use brief::Printed;
-pub use changes::add_changes;
+pub use changes::{add_ends, add_job_line, add_leg, add_run_line};
 pub use entry::{print_entry, read_entry};
 pub use fault::LoadFault;
 pub use plan::{load_plan, print_plan};

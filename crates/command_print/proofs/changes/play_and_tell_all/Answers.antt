@@ -30,4 +30,5 @@ loop-place-preserved g c =
       told = next_told p all i entry old new c.loop-place.text c.play_and_tell.new.text c.loop-place-test.true c.index-entries-place.is kept.played did.0
           kept.told did.2;
       few = few_more p (new_board p) new all i c.loop-place-test.true played (c.legal_lists_are_short.ensures p rules) refl;
+      index = c.in_default.ensures.index;
     }

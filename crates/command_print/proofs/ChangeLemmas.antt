@@ -26,15 +26,21 @@ module _ (First : List ℕ → Type 0) (words : List ℕ) (old mid new : String 
 
 -- ---- things, one after the other
 
+-- the item at a place, and those after it
+pub at_place : {X : Type 0} (ys : List X) (i : ℕ) (y : X) → i < length ys → y ≡ get_or ys i y → drop i ys ≡ y ∷ drop (i + 1) ys
+at_place {X} ys i y within is =
+    let next : suc i ≡ i + 1 = omega arith in
+    drop-cons ys i y within ∙ ap (λ (z : X). z ∷ drop (suc i) ys) (sym is) ∙ ap (λ (k : ℕ). y ∷ drop k ys) next
+
 module _ {N X : Type 0} (after : N → X → N) (Tells : N → X → X → List ℕ → Type 0) (first : N) (before xs : List X) (old : String Global) where
-  abbrev Left : N → ℕ → List ℕ → Type 0
+  abbrev pub Left : N → ℕ → List ℕ → Type 0
   Left n i told = TellsEach after Tells n (drop i before) (drop i xs) told
 
   -- up to a place: whatever is told of the others, all is told by it after what was added
   abbrev pub ToldTo : N → ℕ → String Global → Type 0
   ToldTo n i new = AddsOf (λ done. (later : List ℕ) → Left n i later → TellsEach after Tells first before xs (done ++ later)) old new
 
-  told_there : (n : N) (i : ℕ) (new : String Global) → Left n i [] → ToldTo n i new → AddsOf (TellsEach after Tells first before xs) old new
+  pub told_there : (n : N) (i : ℕ) (new : String Global) → Left n i [] → ToldTo n i new → AddsOf (TellsEach after Tells first before xs) old new
   told_there n i new none (done, goes, is) =
       (done, subst (TellsEach after Tells first before xs) (append-nil done) (goes [] none), is)
 
@@ -51,11 +57,6 @@ module _ {N X : Type 0} (after : N → X → N) (Tells : N → X → X → List 
   pub told_beside : (n : N) (i : ℕ) (new : String Global) → length before ≤ i → ToldTo n i new → AddsOf (TellsEach after Tells first before xs) old new
   told_beside n i new end told =
       told_there n i new (subst (λ (bs : List X). TellsEach after Tells n bs (drop i xs) []) (sym (drop_all i before end)) (none_before n (drop i xs))) told
-
-  at_place : (ys : List X) (i : ℕ) (y : X) → i < length ys → y ≡ get_or ys i y → drop i ys ≡ y ∷ drop (i + 1) ys
-  at_place ys i y within is =
-      let next : suc i ≡ i + 1 = omega arith in
-      drop-cons ys i y within ∙ ap (λ (z : X). z ∷ drop (suc i) ys) (sym is) ∙ ap (λ (k : ℕ). y ∷ drop k ys) next
 
   module _ (n : N) (i : ℕ) (was x : X) (there : i < length before) (was_is : was ≡ get_or before i was) (within : i < length xs) (x_is : x ≡ get_or xs i x) where
     left_with : (one later : List ℕ) → Tells n was x one → Left (after n x) (i + 1) later → Left n i (one ++ later)
