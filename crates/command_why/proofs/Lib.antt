@@ -1,1 +1,3 @@
 mod Answered
+mod JobParts
+mod ObjectText

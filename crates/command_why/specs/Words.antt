@@ -1,7 +1,7 @@
 -- What is said of each fact.
-use Rattle.std.specs.Prelude.{ℕ, zero, suc, ◌==◌, ◌++◌, ◌&&◌, Bool, true, false, not, if◌then◌else◌, List, [], ◌∷◌, ℤ, pos, negsuc, codes, decimal, Option, Some, None, slice_get}
+use Rattle.std.specs.Prelude.{ℕ, zero, suc, ◌++◌, Bool, true, false, if◌then◌else◌, List, [], ℤ, pos, negsuc, codes, decimal, Option, Some, None, slice_get}
 use Rattle.std.specs.List.{flat_map}
-use Rattle.status_table.specs.Words.{DoneStep, Job, JobAt, JobState, LegAt, LegState, Member, Outcome, Run, RunAt, StepPlan, ValueFault, job_at, job_has_ended, leg_at, legs_result, run_at, value_fault_name}
+use Rattle.status_table.specs.Words.{DoneStep, JobAt, JobState, LegAt, LegState, Member, Outcome, RunAt, StepPlan, ValueFault, job_at, job_has_ended, leg_at, legs_result, run_at, value_fault_name}
 use Rattle.why_causes.specs.Causes.{is_called, job_last, leg_last, run_last, step_last}
 use Rattle.why_causes.specs.declared.question.Question.{Question}
 use Rattle.why_causes.specs.declared.tree.Line.{Line}

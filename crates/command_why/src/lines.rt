@@ -61,7 +61,7 @@ fn leg_stop(notes: Option<&LegNotes>) -> Option<StopNote>
 }
 
 /// Who told a run or a leg to stop.
-fn stop_of(account: &SeenAccount, who: Member) -> Option<StopNote>
+pub(crate) fn stop_of(account: &SeenAccount, who: Member) -> Option<StopNote>
     ensures { result ≡ spec.stop_of (account_seen account.now) who }
 {
     match who {
@@ -89,7 +89,11 @@ fn add_stop(
 }
 
 /// Adds the name of what is asked about.
-fn add_name(out: &mut Vec<u8>, account: &SeenAccount, question: Question) -> Result<(), AllocError>
+pub(crate) fn add_name(
+    out: &mut Vec<u8>,
+    account: &SeenAccount,
+    question: Question,
+) -> Result<(), AllocError>
     ensures { OnOk result (Adds out.old.items out.new.items
         (spec.question_name (account_seen account.now) question)) }
 {
@@ -130,7 +134,7 @@ fn above_words(question: Question) -> &'static str
 }
 
 /// Adds what is said, unless it was said already.
-fn add_said(
+pub(crate) fn add_said(
     out: &mut Vec<u8>,
     account: &SeenAccount,
     question: Question,

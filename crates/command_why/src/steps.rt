@@ -206,7 +206,7 @@ fn add_step_fact(
 }
 
 /// The line at which the last call of a leg began.
-fn call_line(notes: Option<&LegNotes>) -> Option<u64>
+pub(crate) fn call_line(notes: Option<&LegNotes>) -> Option<u64>
     ensures { result ≡ spec.call_line (option_copied notes.entry) }
 {
     match notes {
@@ -216,7 +216,7 @@ fn call_line(notes: Option<&LegNotes>) -> Option<u64>
 }
 
 /// Whether the next step of a leg, at this place, is in its call.
-fn is_called(step: u64, leg: &Leg) -> bool
+pub(crate) fn is_called(step: u64, leg: &Leg) -> bool
     ensures { result ≡ is_called_of step leg.now }
 {
     matches!(leg.state, LegState::Running { in_call: true, .. }) && step == leg.steps.len() as u64

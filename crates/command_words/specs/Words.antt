@@ -5,7 +5,6 @@ use Rattle.std.specs.declared.io.ErrorKind.TheVariants.{InvalidData, OutOfMemory
 use Rattle.plan_assembler.specs.declared.choice.Choice.{Choice}
 use Rattle.command_debug.specs.Debug.{DebugTells}
 use Rattle.command_print.specs.Eval.{EvalTells}
-use Rattle.why_causes.specs.declared.question.Question.{Question}
 use Rattle.command_io.specs.Files.{File}
 use Rattle.command_print.specs.Changes.{ChangesTells}
 use Rattle.command_print.specs.Lint.{LintTells}
@@ -15,6 +14,7 @@ use Rattle.command_print.specs.Replay.{ReplayTells, SettledTells}
 use Rattle.command_graph.specs.Graph.{GraphTells}
 use Rattle.command_timeline.specs.Timeline.{TimelineTells}
 use Rattle.command_why.specs.Why.{WhyTells}
+use Rattle.command_why.specs.declared.wanted.Wanted.{Wanted}
 use Rattle.command_run.specs.RecordFile.{Keeping, Writes}
 use Rattle.command_run.specs.Run as run
 use Rattle.command_run.specs.StepLogs.{Files}
@@ -65,10 +65,10 @@ abbrev pub RunsTimeline : Stream → Stream → Stream → Stream → ℕ → Ty
 RunsTimeline out out' err err' status =
     ((input input' : Stream) × TimelineTells input input' out out' err err' status) ⊎ TellsSome out out' err err' status
 
--- What `why` tells of some record and of what is asked about; or an error is told.
+-- What `why` tells of some record and of what is asked; or an error is told.
 abbrev pub RunsWhy : Stream → Stream → Stream → Stream → ℕ → Type 0
 RunsWhy out out' err err' status =
-    ((asked : Option Question) × (input input' : Stream) × WhyTells asked input input' out out' err err' status)
+    ((wanted : Wanted) × (input input' : Stream) × WhyTells wanted input input' out out' err err' status)
     ⊎ TellsSome out out' err err' status
 
 -- What `run` tells of some plan, and keeps of it in some file, where the record of a play grows so, a machine writes files so, the

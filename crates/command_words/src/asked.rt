@@ -11,6 +11,7 @@ use command_io::files::{NamedSource, OptionalFile};
 use command_print::eval::AskedEval;
 use command_print::plan::AskedPlan;
 use command_run::run::{AskedRun, RunWords};
+use command_why::wanted::Wanted;
 use flow_model::Text;
 use std::alloc::Global;
 use why_causes::question::Question;
@@ -47,8 +48,17 @@ fn shown_by(settled: bool, changes: bool) -> Result<Shown, CommandError> {
 #[derive(Drop)]
 pub(crate) struct AskedWhy<S> {
     pub(crate) record: S,
-    /// What is asked about, if it is named.
-    pub(crate) question: Option<Question>,
+    pub(crate) wanted: Wanted,
+}
+
+/// What the options `--json` and `--each` have `why` print of what is named; `--each` is for JSON of all parts.
+fn wanted_by(json: bool, each: bool, named: Option<Question>) -> Result<Wanted, CommandError> {
+    match (json, each, named) {
+        (false, false, named) => Ok(Wanted::Words(named)),
+        (true, false, named) => Ok(Wanted::Objects(named)),
+        (true, true, None) => Ok(Wanted::Each),
+        (true, true, Some(_)) | (false, true, _) => Err(CommandError::Words),
+    }
 }
 
 /// A command that is asked for.
@@ -178,12 +188,14 @@ impl<'m, 'w, F: Folder> Asking<'m, 'w, F> {
 
     /// What `why` is asked for.
     fn asked_why(&self) -> Result<AskedWhy<F::File>, CommandError> {
-        let question = match self.words.get_strs("what") {
+        let words = self.words;
+        let named = match words.get_strs("what") {
             Some(words) => question_of(words)?,
             None => None,
         };
+        let wanted = wanted_by(words.get_flag("json"), words.get_flag("each"), named)?;
         let record = self.open_required("record")?;
-        Ok(AskedWhy { record, question })
+        Ok(AskedWhy { record, wanted })
     }
 
     /// What the words ask for after the name of their command.

@@ -49,7 +49,16 @@ fn known_replay<'a>(alloc: Global) -> Result<Command<'a>, AllocError> {
 
 /// The command `why`.
 fn known_why<'a>(alloc: Global) -> Result<Command<'a>, AllocError> {
-    known_file(alloc, "why", "record")?.arg(Arg::new(alloc, "what").num_args(1..))
+    let json = Arg::new(alloc, "json")
+        .long("json")
+        .action(ArgAction::SetTrue);
+    let each = Arg::new(alloc, "each")
+        .long("each")
+        .action(ArgAction::SetTrue);
+    known_file(alloc, "why", "record")?
+        .arg(json)?
+        .arg(each)?
+        .arg(Arg::new(alloc, "what").num_args(1..))
 }
 
 /// The command `run`.

@@ -150,11 +150,8 @@ fn perform_why<S: Source + Drop, O: Sink, E: Sink>(
     ensures { spec.RunsWhy (O.seen out.old) (O.seen out.new)
         (E.seen err.old) (E.seen err.new) result }
 {
-    let AskedWhy {
-        mut record,
-        question,
-    } = asked;
-    why(alloc, &mut record, question, out, err)
+    let AskedWhy { mut record, wanted } = asked;
+    why(alloc, &mut record, wanted, out, err)
 }
 
 /// Runs `run`.

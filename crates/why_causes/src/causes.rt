@@ -574,7 +574,7 @@ fn add_step(
 // ---- all
 
 /// Adds what made a fact so.
-pub(crate) fn add_causes(
+pub fn add_causes(
     alloc: Global,
     out: &mut Vec<Question>,
     account: &SeenAccount,

@@ -17,7 +17,7 @@ pub enum Question {
 }
 
 /// The question about a run or a leg.
-pub(crate) fn about(who: Member) -> Question
+pub fn about(who: Member) -> Question
     ensures { result ≡ spec.about who }
 {
     match who {
