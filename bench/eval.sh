@@ -1,6 +1,6 @@
 #!/usr/bin/env bash
 # Prints the time of `actrun eval`: of a short and of a long expression, and of functions on texts of a quarter, a half
-# and nearly one MiB, beside that of an expression that only names the same contexts; and the peak memory of each. What
+# and nearly one MiB, next to that of an expression that only names the same contexts; and the peak memory of each. What
 # Python takes to start the program counts as well, so a peak is never below some 10 MB.
 set -eu
 top=$(cd "$(dirname "${BASH_SOURCE[0]}")/.." && pwd)
@@ -30,7 +30,7 @@ def least(words):
     return best
 
 
-# Runs the program and prints its peak memory: that of all children, of which there is no other.
+# Runs the program and prints its peak memory: that of all children; it has no other.
 CHILD = """
 import resource, subprocess, sys
 code = subprocess.run(sys.argv[1:], stdout=subprocess.DEVNULL).returncode

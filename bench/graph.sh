@@ -1,5 +1,5 @@
 #!/usr/bin/env bash
-# Prints the time of `actrun graph` of a plan of 4,096 legs, and of records of 10,000 and 100,000 entries on it beside that of
+# Prints the time of `actrun graph` of a plan of 4,096 legs, and of records of 10,000 and 100,000 entries on it, next to that of
 # `replay`, with the size of what is printed. Times are those of the processor, the least of three runs.
 set -eu
 top=$(cd "$(dirname "${BASH_SOURCE[0]}")/.." && pwd)

@@ -1,5 +1,5 @@
 #!/usr/bin/env bash
-# Prints the time of `actrun plan`: of workflows of 256 jobs, each of which needs all before it (32,640 needs a
+# Prints the time of `actrun plan`: of workflows of 256 jobs that each need all before it (32,640 needs a
 # workflow), of 64 workflows and of a half and a quarter of them; of workflows of fewer jobs with about a half and a
 # quarter of the needs; and of a matrix of 65,536 combinations with 256 excludes. A plan has at most 4,096 legs, so more
 # than 16 workflows of 256 jobs are refused, by the last test of all, once everything else has passed. What the needs

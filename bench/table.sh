@@ -1,6 +1,6 @@
 #!/usr/bin/env bash
 # Prints, for `actrun table` on one plan and 1,000, 10,000 and 100,000 entries, the time per entry (the time
-# beyond that of the plan alone) and the peak memory beside the size of the text; first for a plan of 194 jobs with
+# beyond that of the plan alone) and the peak memory next to the size of the text; first for a plan of 194 jobs with
 # one leg each, then for one of 16 jobs with 256 legs each, in groups and under fail-fast. The time of an entry may
 # not grow with the entries before it. Times are those of the processor, the least of nine runs.
 #

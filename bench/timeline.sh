@@ -1,6 +1,6 @@
 #!/usr/bin/env bash
 # Prints the time of `actrun timeline` of records of 0, 10,000 and 100,000 entries on a plan of 4,096 legs, and of 100,000 on one of
-# as many jobs, beside that of `replay`, with the size of what is printed. Times are those of the processor, the least of three runs.
+# as many jobs, next to that of `replay`, with the size of what is printed. Times are those of the processor, the least of three runs.
 set -eu
 top=$(cd "$(dirname "${BASH_SOURCE[0]}")/.." && pwd)
 "$top/actrun" timeline "$top/examples/p1.record" > /dev/null || true

@@ -1,5 +1,5 @@
 #!/usr/bin/env bash
-# Prints the time of `actrun why` on records of 10,000 and 100,000 entries beside that of `replay`, of one run whose jobs have one leg
+# Prints the time of `actrun why` on records of 10,000 and 100,000 entries, next to that of `replay`, of one run whose jobs have one leg
 # each, and of 4,096 legs with groups and fail-fast, with the size of what is printed. Times are those of the processor, the least of
 # three runs.
 set -eu

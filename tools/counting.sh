@@ -40,7 +40,7 @@ tell_minutes() {
 # installs the packages that tests need where they are missing, or says which those are; the tests then fail, or say that they
 # are skipped
 need_packages() {
-  local missing=() as_root=() name
+  local missing=() name
   mapfile -t missing < <(missing_of_try)
   command -v node >/dev/null || missing+=(nodejs)
   command -v chromedriver >/dev/null || missing+=(chromium chromium-driver)
@@ -49,15 +49,31 @@ need_packages() {
   [ -z "${ACTRUN_ALL_TESTS-}" ] || dpkg -s elpa-dap-mode >/dev/null 2>&1 || missing+=(emacs-nox elpa-dap-mode)
   # (nor needs an ordinary test an engine for containers)
   if [ -n "${ACTRUN_ALL_TESTS-}" ]; then
-    for name in podman:podman runc:runc fuse-overlayfs:fuse-overlayfs newuidmap:uidmap busybox:busybox-static redis-server:redis-server; do
+    for name in podman:podman runc:runc fuse-overlayfs:fuse-overlayfs newuidmap:uidmap busybox:busybox-static redis-server:redis-server \
+      slirp4netns:slirp4netns debootstrap:debootstrap; do
       command -v "${name%:*}" >/dev/null || missing+=("${name#*:}")
     done
   fi
-  [ "${#missing[@]}" -gt 0 ] || return 0
+  add_missing "${missing[@]}"
+}
+
+# installs the packages that look at Python files where they are missing
+need_checkers() {
+  local missing=() name
+  for name in pyflakes:pyflakes3 pycodestyle:python3-pycodestyle mypy:mypy; do
+    /usr/bin/python3 -c "import ${name%:*}" 2>/dev/null || missing+=("${name#*:}")
+  done
+  add_missing "${missing[@]}"
+}
+
+# installs packages, or says which are missing
+add_missing() {
+  local as_root=()
+  [ $# -gt 0 ] || return 0
   if [ "$(id -u)" -eq 0 ] && command -v apt-get >/dev/null; then
-    echo "installing ${missing[*]}"
-    add_packages "${missing[@]}" && return
+    echo "installing $*"
+    add_packages "$@" && return
   fi
-  echo "the tests need packages that are missing: apt-get install ${missing[*]}"
+  echo "the tests need packages that are missing: apt-get install $*"
   return 1
 }

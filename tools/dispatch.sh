@@ -6,7 +6,14 @@ say() { printf 'actrun: %s\n' "$1" >&2; }
 
 # whether a command is one of the front's
 is_of_front() {
-  case $1 in try | from-yaml | dap | report | open) ;; *) is_by_time "$@" ;; esac
+  case $1 in try | from-yaml | dap | report | open | files | explain) ;; lint) has_yaml "${@:2}" ;; *) is_by_time "$@" ;; esac
+}
+
+# whether a word names a file of YAML
+has_yaml() {
+  local word
+  for word in "$@"; do case $word in *.yml | *.yaml) return ;; esac done
+  false
 }
 
 # whether a command is a timeline by time
@@ -76,7 +83,7 @@ start_front() {
 # its own, ignores no more signals than this script, and ends where this script is killed.
 choose_starter() {
   local signals=CHLD ignored
-  starter=() record='' work=. made='' locked=''
+  starter=() record='' times='' work=. made='' locked='' fresh=()
   [ "$1" = run ] || return 0
   read_words "${@:2}"
   lock_places
@@ -112,6 +119,7 @@ read_words() {
         exit 2
         ;;
       --record,*) record=$value ;;
+      --times,*) times=$value ;;
       --work,?*)
         work=$value
         [ -d "$value" ] || say "--work $value: no step can start, for this is no folder: name one that is there"
@@ -120,10 +128,17 @@ read_words() {
     shift
   done
   check_record
+  for value in "$record" "$times"; do [ -z "$value" ] || [ -e "$value" ] || fresh+=("$value"); done
 }
 
-# refuses a record that nothing keeps, and one that would grow in a pipe, which nobody reads
+# refuses a record that nothing keeps, one that would grow in a pipe, which nobody reads, and files that a link leads to
 check_record() {
+  local name=--record link=$record.part
+  if [ -n "$times" ] && [[ $times != /dev/* ]] && [ -L "$times" ]; then name=--times link=$times; fi
+  if [ -L "$link" ]; then
+    say "$name: $link is a link, and nothing was executed: remove it, or name another file"
+    exit 2
+  fi
   if [ "$record" -ef /dev/null ]; then
     say "--record $record keeps no record, and nothing was executed: leave this option out, or name a file"
     exit 2
@@ -146,17 +161,29 @@ lock_places() {
   [ -z "$record" ] || [ -p "$record" ] || [ -S "$record" ] || [ -c "$record" ] || [ -b "$record" ] || lock_record
 }
 
-# Locks the file in which the record grows. A run that ends removes this file, so that another one may have its name meanwhile.
+# Locks the file in which the record grows, which only its owner reads. A run that ends removes this file, so that another one may
+# have its name meanwhile.
 lock_record() {
   local part=$record.part
   [ ! -L "$record" ] || part=$(readlink -m -- "$record").part
   for _ in {1..100}; do
     [ -e "$part" ] || made=$part
-    { exec {locked}<>"$part"; } 2>/dev/null || return 0 # (the program says why)
+    open_private "$part" || return 0 # (the program says why)
     take_lock "$locked" 'writes this record' --record "$record"
     [ ! "/proc/self/fd/$locked" -ef "$part" ] || return 0
     exec {locked}>&-
   done
+}
+
+# opens a file for the lock; only its owner reads what is made
+open_private() {
+  local mask status
+  mask=$(umask)
+  umask 077
+  { exec {locked}<>"$1"; } 2>/dev/null
+  status=$?
+  umask "$mask"
+  return "$status"
 }
 
 # locks a descriptor, or says which process has locked the same, and what it does with the value of an option
@@ -225,7 +252,7 @@ explain_program() {
   case $status in
     2 | 3)
       tell_front
-      python3 "$top/front" explain "$status" "$room/err" "$@" >&2
+      python3 "$top/front" explain-error "$status" "$room/err" "$@" >&2
       ;;
   esac
   tell_end
@@ -247,7 +274,14 @@ watch_program() {
   wait "$child" 2>/dev/null
   ended=$?
   trap - INT TERM HUP QUIT
+  keep_private
   return "${stopped:-$ended}"
+}
+
+# lets only their owner read the record and the times that this run has made
+keep_private() {
+  local file
+  for file in "${fresh[@]}"; do [ ! -f "$file" ] || [ -L "$file" ] || chmod 600 -- "$file" 2>/dev/null; done
 }
 
 # removes the file in which the record should have grown, where this script has made it and the program wrote nothing
@@ -368,16 +402,32 @@ in_session() {
 
 # sets `words` to a command with the record of the last execution of this repository in place of --last; fails where nothing is replaced
 name_last() {
-  case ${1-} in debug | why | report | timeline | graph | replay) ;; *) return 1 ;; esac
+  case ${1-} in debug | why | report | timeline | graph | replay | files | explain) ;; *) return 1 ;; esac
   has_word --last "${@:2}" && has_front || return
   mapfile -d '' -t words < <(ACTRUN_TOP=$top exec python3 "$top/front" last "$@")
   wait "$!" || exit 2
 }
 
+# Sets `words` to a command that reads the whole lines of a record that grows (FILE.part), whose last line is cut; fails where there
+# is none.
+name_whole() {
+  local at part
+  case ${1-} in debug | why | timeline | graph | replay) ;; *) return 1 ;; esac
+  for ((at = 2; at <= $#; at++)); do
+    part=${!at}
+    [[ $part == *.part && -f $part && -n $(tail -c 1 -- "$part" 2>/dev/null) ]] || continue
+    exec {whole}< <(exec sed '$d' -- "$part")
+    words=("${@:1:at-1}" "/dev/fd/$whole" "${@:at+1}")
+    return
+  done
+  return 1
+}
+
 # answers a command by the program that was chosen, or by the front
 answer() {
-  local words
+  local words whole
   if name_last "$@"; then set -- "${words[@]}"; fi
   if is_of_front "$@" || is_talk "$@"; then start_front "$@"; fi
+  if name_whole "$@"; then set -- "${words[@]}"; fi
   start_program "$@"
 }

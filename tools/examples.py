@@ -1,13 +1,13 @@
 #!/usr/bin/env python3
-"""Plays the examples of documents, and tells which of them print something else than the document says.
+"""Executes the examples of documents, and prints those whose output differs from the document.
 
   tools/examples.py [--write] DOCUMENT..      from the top of the repository; README.md docs/GUIDE.md if none is named
 
-An example is a line `$ COMMAND` in a block, with what it prints below it, both streams in one; a command goes on in the next
-line (after `> `) where the shell says that it is not whole. All commands of one document run in one shell, from the top of the
-repository. With --write the document gets what is printed now: look at the difference before it is kept. A block whose fence
-has the word `shown` is not played. A line `...` fits any lines, and `...` in a line fits any text.
-The status is 1 where one differs.
+An example is a line `$ COMMAND` in a block, with its output below it, both streams in one; a command continues in the next
+line (after `> `) if the shell needs more. All commands of one document run in one shell, from the top of the
+repository. --write puts the output into the document: look at the difference before you keep it. A block whose fence
+has the word `shown` is not executed. A line `...` fits any lines, and `...` in a line fits any text.
+The status is 1 if one differs.
 """
 import os
 import re

@@ -3,7 +3,7 @@
 
 usage: tools/hostile.py NUMBER SEED [PROGRAM]      PROGRAM is crates/actrun/out/actrun if none is named
 
-Inputs 0 to NUMBER - 1 of the seed are tried, for all commands but `run`. An input is made of the examples and of the texts of the
+Inputs 0 to NUMBER - 1 of the seed are tried, for all commands but `run`. An input is built from the examples and of the texts of the
 cases: bytes garbled, lines shuffled, texts cut, tokens at random, values exchanged, brackets nested deep, numbers huge. Input I
 of a seed is always the same, whatever NUMBER is.
 
@@ -12,7 +12,7 @@ Of each answer it is asked that
   and `timeline`;
 - standard error is empty where the status is 0, 1 or 4, and where `lint` refuses a file; else it is one line that REFERENCE.md has, of
   that status;
-- standard output is empty beside a fault, and else is what the command prints: a value, a plan, jobs by stages, what is to be known of
+- standard output is empty next to an error, and else is what the command prints: a value, a plan, jobs by stages, what is to be known of
   the files that `lint` is given, in lines without a control character, a board, a graph, a picture that a reader of XML takes,
   which names nothing outside of it, a tree of reasons, answers of the debugger;
 - out of memory is never reported, since there is memory;
@@ -22,7 +22,7 @@ Of each answer it is asked that
   `table` may refuse one before it, since it plays each before it reads the next;
 - the status of `replay` fits its board, which is that of `table`, and to which the places of `--changes` lead; those of `graph`, whose
   braces and quotes are closed, and of `timeline` fit it too, and a row of `timeline` says how far the board has what it is for;
-- `why` refuses words that name nothing of what it knows, and where the plan has not what they name it tells that; else that is its
+- `why` refuses words that name nothing of what it knows, and where the plan has not what they name it says so; else that is its
   root; without such words it reports each run and each leg that ended, where that did not succeed, and no other is a root;
 - `debug` answers each line once.
 
@@ -106,7 +106,7 @@ REASONS = {
 }
 TOLD_TO_STOP = rf"{MEMBER} was told to stop({AT} by (cancel|{MEMBER}, a newer member of its group)| \(above\))"
 REASON_LINE = re.compile("|".join([TOLD_TO_STOP, *(rf"{kind} {NAMED} (\(above\)|{said})" for kind, said in REASONS.items())]))
-# how a row of a timeline says what the board says, where that is another word
+# how a row of a timeline says what the board says in another word
 STANDS = {"new": ("not begun",), "unjudged": ("not begun",), "fresh": ("not begun",), "open": ("going", "success", "failure", "cancelled")}
 DEBUG_LINE = re.compile(r"place [0-9]+ of [0-9]+|debug (AtEnd|AtStart|NoPlace|NoBreak)|break set|cleared|no such break|unknown command")
 LINT_REST = re.compile(r": [^\x00-\x1f\x7f]+: [^\x00-\x1f\x7f]+")
@@ -144,7 +144,7 @@ class Answer:
 
 
 def lines_of(text):
-    """The lines of a text each of which ends with a newline. Nothing where the last does not."""
+    """The lines of a text, if each ends with a newline."""
     if text and not text.endswith("\n"):
         return None
     return text.split("\n")[:-1]
@@ -210,7 +210,7 @@ def wrong_text(tried, text):
 
 
 def without_settled(lines):
-    """The lines of a board, without the last where that says whether it is settled."""
+    """The lines of a board, without the last if that says whether it is settled."""
     return lines[:-1] if lines and lines[-1] in ("settled yes", "settled no") else lines
 
 
@@ -220,7 +220,7 @@ def last_board(lines):
 
 
 def board_of_places(lines):
-    """The board at the last place, by the board at place 0 and what each later place changes; nothing where places are misnumbered."""
+    """The board at the last place, by the board at place 0 and what each later place changes; nothing if places are misnumbered."""
     places = [it for it in lines if it.startswith("place ")]
     if places != [f"place {at}" for at in range(len(places))]:
         return []
@@ -323,7 +323,7 @@ def wrong(tried, answer):
 
 
 def wrong_together(tried, answer, program, room):
-    """What is wrong with an answer beside that of another command, or nothing."""
+    """What is wrong with an answer, compared with that of another command; or nothing."""
     if tried.command == "plan" and answer.status == 0:
         other = Answer(program, ["table"], answer.out, room)
         return wrong(TABLE, other) or (None if other.status == 0 else "the plan that it printed is refused by table")
@@ -339,7 +339,7 @@ def wrong_together(tried, answer, program, room):
 
 
 def wrong_beside_plan(answer, other):
-    """What is wrong with an answer of `lint` beside that of `plan` of the same file, or nothing."""
+    """What is wrong with an answer of `lint`, compared with that of `plan`; or nothing."""
     found = wrong(PLAN, other)
     if found or (other.status == 2) != (answer.status == 2):
         return found or "plan refuses what lint lets pass, or the other way round"
@@ -351,7 +351,7 @@ def wrong_beside_plan(answer, other):
 
 
 def wrong_beside_table(tried, answer, other):
-    """What is wrong with an answer beside that of `table` of the same record, or nothing."""
+    """What is wrong with an answer, compared with that of `table`; or nothing."""
     found, is_refused = wrong(TABLE, other), answer.status == 2 and answer.err != NOT_THERE
     if found is None and (other.status == 2) != is_refused:
         found = f"table refuses what {tried.command} plays, or the other way round"
@@ -379,7 +379,7 @@ def is_same_refusal(answer, other):
 
 
 def wrong_replay(tried, answer, board):
-    """What is wrong with the text of `replay` beside a board, or nothing."""
+    """What is wrong with the text of `replay`, compared with a board; or nothing."""
     told = lines_of(answer.out.decode())
     lines = last_board(told)
     if (told[-1:] in (["settled yes"], ["settled no"])) != (b"--settled" in tried.words):
@@ -390,7 +390,7 @@ def wrong_replay(tried, answer, board):
 
 
 def wrong_reasons(tried, answer, board):
-    """What is wrong with an answer of `why` beside a board, or nothing."""
+    """What is wrong with an answer of `why`, compared with a board; or nothing."""
     lines, subject = lines_of(answer.out.decode()), [it.decode() for it in tried.words[2:]]
     roots = [it for it in lines if not it.startswith(" ")]
     if subject:
@@ -431,7 +431,7 @@ def has_subject(tried, subject):
 
 
 def wrong_rows(answer, board):
-    """What is wrong with the rows of a picture beside a board, or nothing."""
+    """What is wrong with the rows of a chart, compared with a board; or nothing."""
     rows = [it[0].text for it in ElementTree.fromstring(answer.out) if it.get("class") == "lane"]
     members = [it.split(" ") for it in board if it.startswith(("run ", "job ", "leg "))]
     for row, (kind, number, state, *result) in zip(rows, members):

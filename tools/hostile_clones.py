@@ -33,7 +33,7 @@ OPTIONS = ("--job", "-j", "--env", "--input", "--var", "--matrix", "--stub", "--
            "--secret", "--secret-file", "--var-file", "--env-file", "--input-file", "--stubs", "-e",
            "--eventpath", "-W", "--workflows", "-C",
            "--directory", "--keep", "--in-place", "--no-sandbox", "--offline", "--bind", "--bind-rw",
-           "--writable-git", "--break", "--help", "-h", "--", "-",
+           "--writable-git", "--host-network", "--break", "--help", "-h", "--", "-",
            "-nl", "push", "--unknown", "#", "")
 SETTINGS = ("core.fsmonitor", "core.hooksPath", "core.pager", "core.sshCommand", "core.gitProxy",
             "core.askPass", "core.worktree", "core.bare",

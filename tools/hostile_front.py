@@ -5,7 +5,7 @@ usage: tools/hostile_front.py NUMBER SEED [PROGRAM]      PROGRAM is that of ACTR
 
 Inputs 0 to NUMBER - 1 of the seed are tried: records, times, logs, workflows in YAML, contexts, stubs, payloads, files
 of options and secrets, and messages of the Debug Adapter Protocol, garbled as hostile_inputs.py garbles them, for
-`report`, `timeline`, `debug`, `dap`, `try -n`, `from-yaml` and `explain`. Nothing of them is executed.
+`report`, `timeline`, `debug`, `dap`, `try -n`, `from-yaml`, `explain` and `explain-error`. Nothing of them is executed.
 
 Each answer has to come within 120 seconds of the clock, with a status that REFERENCE.md has. Standard error has no
 traceback, and calls no error unforeseen. What `dap` sends are messages. What offends is kept, each input in a folder of
@@ -36,12 +36,13 @@ SECONDS = 120
 LONGEST = 100_000  # bytes of a workflow: a reader in Python takes a second for that many
 MODULES = {"try": "attempt", "from-yaml": "from_yaml", "debug": "debug", "dap": "dap", "report": "report",
            "timeline": "timeline",
-           "explain": "explain"}
+           "explain": "explained", "explain-error": "explain"}
 REQUESTS = ("setBreakpoints setExceptionBreakpoints dataBreakpointInfo setDataBreakpoints configurationDone threads "
             "stackTrace scopes variables evaluate continue reverseContinue next stepBack stepIn stepOut gotoTargets "
-            "goto pause exceptionInfo").split()
+            "goto pause exceptionInfo setFunctionBreakpoints completions loadedSources restart restartFrame attach").split()
 ARGUMENTS = ("source path breakpoints line lines filters filterOptions filterId variablesReference name dataId threadId "
-             "granularity startFrame levels targetId frameId start count expression context").split()
+             "granularity startFrame levels targetId frameId start count expression context condition hitCondition "
+             "logMessage text column folder").split()
 YAML = (b"- ", b": ", b"&a ", b"*a", b"<<: ", b"|\n", b">-\n", b"? ", b"!!str ", b"!x ", b"%YAML 1.1\n",
         b"---\n", b"...\n", b"\t", b"  ", b"@", b"`",
         b"{", b"}", b"[", b"]", b"'", b'"', b"# x\n", b"0o17", b".inf", b".nan", b"-0", b"1_000", b"yes",
@@ -93,10 +94,23 @@ def made_timeline(chance: random.Random) -> Input:
                                                              "times": times(chance)})
 
 
+ASKED = ("step,back,next,reverse-next,continue,reverse-continue,go,go-back,until 3,until a,finish,goto 2,jump failed,jump skipped,break failed,"
+         "break a,break a/0 if true,tbreak leg 0,break ci.yml:3,watch steps.a,watch env.A,delete,delete 1,info legs,info b,frame leg 1,"
+         "frame step 0 1,show,bt,list,explain,explain job 0,values,values run 0,print matrix,print $A,env,log,log (,/a,why,why leg 0,"
+         "why step 0 0,why run,why x\udcff,help,clear failed,files,files 0/1 a,files 9/9,files a/0,cat a,cat ../a,shell").split(",")
+
+
 def made_debug(chance: random.Random) -> Input:
-    asked = inputs.questions(chance) + chance.choice((b"", b"why\nwhy leg 0\nwhy step 0 0\nshow\nhelp\n",
-                                                      b"why run\nwhy x\xff\nbreak\n"))
+    words = [*chance.choices(ASKED, k=chance.choice((0, 3, 15))), f"print {inputs.expression(chance)[:200]}".replace("\n", " ")]
+    asked = inputs.questions(chance) + "".join(f"{word}\n" for word in words).encode("utf-8", "surrogateescape")
     return Input("debug", "r", files={"r": inputs.record(chance)}, given=asked)
+
+
+def made_explain(chance: random.Random) -> Input:
+    part = chance.choice(("run 0", "job 0", "job 1", "leg 0", "leg 2", "step 0 0", "step 0 1", "step 1 2", "step x", "leg -1")).split()
+    words = [*chance.choice(([], ["--json"])), "r", chance.choice(("end", "end", "0", "3", "99", "x")), *part]
+    return Input("explain", *words, files={"r": inputs.record(chance), "workflows.json": chance.choice((b"", b"{}", b"[]", b'{"legs": 1}')),
+                                           "step-0-0.log": b"::error file=a,line=1::b\n::add-mask::c\n\xff"})
 
 
 def frame(message: Any) -> bytes:
@@ -110,10 +124,14 @@ def arguments(chance: random.Random) -> Any:
     numbers = (0, 1, 1, 2, 3, 7, -1, 1 << 70)
     usual = {"threadId": 1, "frameId": chance.choice(numbers), "variablesReference": chance.choice(numbers),
              "targetId": chance.choice(numbers),
-             "expression": chance.choice(("place", "why", "why leg 0", "goto 3", "env.A",
+             "expression": chance.choice(("place", "why", "why leg 0", "goto 3", "env.A", "explain", "values job 0", "$A",
                                           inputs.expression(chance)[:500])), "line": 4,
              "context": chance.choice(("hover", "repl")), "source": {"path": "ci.yml"},
-             "breakpoints": [{"line": chance.choice(numbers)}],
+             "breakpoints": [{"line": chance.choice(numbers), "name": chance.choice(("a", "test/1", "x")),
+                              "condition": chance.choice(("", "true", inputs.expression(chance)[:500])),
+                              "hitCondition": chance.choice(("", "2", "% 2", ">")),
+                              "logMessage": chance.choice(("", "{env.A} {", "x"))}],
+             "text": chance.choice(("steps.", "$", "why ", "")), "column": chance.choice(numbers),
              "filters": ["failed", "skipped"]}
     for _ in range(chance.choice((0, 0, 1, 1, 3))):
         usual[chance.choice(ARGUMENTS)] = inputs.strange_value(chance)
@@ -171,7 +189,7 @@ def made_yaml(chance: random.Random) -> Input:
                  given=files["ci.yml"])
 
 
-def made_explain(chance: random.Random) -> Input:
+def made_error(chance: random.Random) -> Input:
     lines = [b"actrun: line 3 NotEntry\n", b"actrun: flow ci.json NotJson\n", b"actrun: plan NoWorkflow\n",
              b"actrun: expr BadChar at 2\n", b"actrun: io\n",
              b"actrun: words\n", b"actrun: load NotPlan\n", b"actrun: why NoSuch\n",
@@ -179,7 +197,7 @@ def made_explain(chance: random.Random) -> Input:
     words = chance.choice((["plan", "ci.json"], ["table"], ["replay", "r"], ["eval", "a b"],
                            ["why", "r", "leg", "9"], ["lint", "ci.json"], ["run", "--record",
                            "x/y", "r"], ["plan", "--job", "x", "ci.json"], ["debug", "--x"]))
-    return Input("explain", "2", "err", *words, files={"err": inputs.sometimes_garbled(chance,
+    return Input("explain-error", "2", "err", *words, files={"err": inputs.sometimes_garbled(chance,
         chance.choice(lines), 0.4), "r": inputs.record(chance),
                                                        "ci.json": inputs.flow(chance)[:LONGEST],
                                                        "ci.yml": workflow(chance)})
@@ -187,7 +205,7 @@ def made_explain(chance: random.Random) -> Input:
 
 MADE: tuple[Callable[[random.Random], Input], ...] = (made_report, made_timeline, made_debug, made_dap,
                                                       made_dap, made_try, made_try, made_yaml, made_yaml,
-                                                      made_explain)
+                                                      made_explain, made_error)
 
 
 def answer(tried: Input, room: Path, program: str) -> tuple[int | None, bytes, bytes]:
@@ -219,7 +237,7 @@ def answer(tried: Input, room: Path, program: str) -> tuple[int | None, bytes, b
 
 
 def wrong(tried: Input, status: int | None, out: bytes, err: bytes) -> str:
-    """Why an answer offends; nothing where it does not."""
+    """Why an answer offends; nothing if it does not."""
     if status is None:
         return f"no answer came in {SECONDS} s"
     if status not in (0, 1, 2, 3, 4):

@@ -68,7 +68,7 @@ def is_subject(words):
 
 
 class Seeds:
-    """The texts that inputs are made of."""
+    """The texts that inputs are built from."""
 
     def __init__(self):
         self.flows, self.plans, self.records, self.contexts, self.expressions, self.entries = [], [], [], [], [], []
@@ -356,6 +356,7 @@ def matrix(chance):
     """What may be a matrix."""
     def pairs():
         return {chance.choice("abcd"): chance.choice((1, 2, "x", None, [1], {"k": 1}, True, 0)) for _ in range(chance.choice((0, 1, 1, 2, 4)))}
+
     def values():
         return [chance.choice((it, it, 1, "x", [1], {"k": 1}, True)) for it in range(chance.choice((0, 1, 2, 4, 16, 41, 256, 257)))]
     made_of = {chance.choice("abcdefgh"): values() for _ in range(chance.choice((0, 1, 2, 3, 4, 8)))}

@@ -17,7 +17,7 @@ import unittest
 from pathlib import Path
 
 ALL = bool(os.environ.get("ACTRUN_ALL_TESTS"))
-# the most memory that `run` may take beside the greatest line of a log
+# the most memory that `run` may take, without the longest line of a log
 MOST_BYTES = 32 << 20
 # executes the words after the first two, with what they print at the file that the second names, and prints the status, the most memory
 # and the seconds of a processor that they took; a program that takes more such seconds than the first says is ended by SIGXCPU

@@ -151,7 +151,7 @@ def value(text, contexts):
 
 
 def is_set(flag, contexts):
-    """Whether a flag holds, which is a truth value or a text."""
+    """Whether a flag holds, which is a boolean or a string."""
     if isinstance(flag, bool):
         return flag
     try:

@@ -39,7 +39,7 @@ Dir::Etc::sourceparts "/dev/null";
 Dir::Cache "{0}";
 APT::Sandbox::User "root";
 """
-SOURCES = "deb-src [signed-by=/usr/share/keyrings/debian-archive-keyring.gpg] http://deb.debian.org/debian {0} main\n"
+KNOWN = ("apt-get", "indextargets", "--format", "deb-src $(REPO_URI) $(RELEASE) $(COMPONENT)", "Created-By: Packages")
 
 
 @dataclass(frozen=True)
@@ -81,10 +81,14 @@ LIST = [
 ]
 
 
-def suite() -> str:
-    """The name of this Debian's release."""
+def sources() -> str:
+    """Where the sources of this Debian's release are, by the machine's own lists of packages, as a list of apt."""
     text = pathlib.Path("/etc/os-release").read_text(encoding="utf-8")
-    return re.search(r"^VERSION_CODENAME=(\w+)", text, re.MULTILINE)[1]
+    suite = re.search(r"^VERSION_CODENAME=(\w+)", text, re.MULTILINE)[1]
+    found = subprocess.run([*KNOWN, f"Release: {suite}"], check=True, stdout=subprocess.PIPE, text=True).stdout
+    if not found:
+        sys.exit(f"real_workflows.py: this machine has no list of packages of {suite}: apt-get update fetches it")
+    return found
 
 
 def fetch(cache: pathlib.Path, packages: list[str]) -> None:
@@ -95,7 +99,7 @@ def fetch(cache: pathlib.Path, packages: list[str]) -> None:
         return
     for folder in ("lists/partial", "archives/partial", "sources"):
         (apt / folder).mkdir(parents=True, exist_ok=True)
-    (apt / "sources.list").write_text(SOURCES.format(suite()), encoding="utf-8")
+    (apt / "sources.list").write_text(sources(), encoding="utf-8")
     (apt / "apt.conf").write_text(APT.format(apt), encoding="utf-8")
     environment = {**os.environ, "APT_CONFIG": str(apt / "apt.conf")}
     subprocess.run(["apt-get", "update", "-qq"], env=environment, check=True)
@@ -110,7 +114,7 @@ def archive(cache: pathlib.Path, package: str) -> str | None:
 
 
 def unpack(cache: pathlib.Path, source: Source) -> pathlib.Path | None:
-    """The package's tree as a git repository with one commit; None where its archive could not be fetched."""
+    """The package's tree as a git repository with one commit; None if its archive could not be fetched."""
     tree, packed = cache / "trees" / (source.repository or source.package), archive(cache, source.package)
     if (tree / ".git").is_dir() or packed is None:
         return tree if packed else None

@@ -221,6 +221,26 @@ class Growing(Case):
             answer = self.run_words(self.script(program(), "run", "--work", str(self.work), *words, "--record"), cwd=self.room)
             self.assertEqual((answer.returncode, answer.stdout), (0, "shown\nrun 0 success\n"), answer.stderr)
 
+    def test_a_link_is_refused_before_anything_is_executed(self) -> None:
+        plan, other, times = self.plan([{"run": "touch here"}]), self.room / "other", self.room / "times"
+        for link, option in ((self.part, "--record"), (times, "--times")):
+            link.symlink_to(other)
+            answer = self.run_words(self.script(*self.words(plan, "--record", str(self.record), "--times", str(times))))
+            self.assertEqual((answer.returncode, answer.stdout), (2, ""))
+            self.assertRegex(answer.stderr, rf"^actrun: {option}: {link} is a link, and nothing was executed: ")
+            link.unlink()
+        self.assertFalse((self.work / "here").exists() or other.exists())
+
+    def test_only_the_owner_reads_what_is_made(self) -> None:
+        plan, times = self.plan([{"run": f"stat -c %a {self.part}; umask"}]), self.room / "times"
+        words = self.script(*self.words(plan, "--record", str(self.record), "--times", str(times)))
+        for mode, umask in ((0o600, 0o2), (0o604, 0o22)):  # (a file that is there keeps its mode)
+            answer = self.run_words(words, umask=umask)
+            self.assertEqual(answer.stdout, f"600\n{umask:04o}\nrun 0 success\n")
+            self.assertEqual([file.stat().st_mode & 0o777 for file in (self.record, times)], [mode, mode])
+            for file in (self.record, times):
+                file.chmod(0o604)
+
     def test_a_folder_of_steps_that_is_not_there_is_told(self) -> None:
         plan = self.plan([{"run": "echo shown"}])
         for words in (["--work", str(plan)], [f"--work={self.room}/none"], ["--times", "--work", "--work", "none"]):
@@ -335,7 +355,7 @@ class Written(Case):
     """What FILE is at the end, by what it was before."""
 
     def write(self, **more) -> int:
-        """Writes a record, of which no other file is left; gives its inode."""
+        """Writes a record, and leaves no other file of it; gives its inode."""
         answer = self.run_words(self.words(self.plan([{"run": "true"}])), **more)
         self.assertEqual((answer.returncode, answer.stdout, answer.stderr), (0, "run 0 success\n", ""))
         self.assertEqual(self.entries()[-1]["event"], "close")

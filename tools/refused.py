@@ -159,7 +159,7 @@ def played(programs, plan):
         if os.path.exists(record):
             os.remove(record)
         refused += told(programs, words, b"", number, whole, True)
-        # (it is empty where there is no memory for its text)
+        # (it is empty if there is no memory for its text)
         if os.path.exists(record) and os.path.getsize(record):
             status, _, err = programs.run([programs.actrun, "replay", record])
             if status not in (0, 1, 4) or err:
@@ -188,7 +188,7 @@ def text_in(named, name):
 
 
 def lines_of(answer):
-    """The lines of what the only case of a file answered, which is printed since the case wants something else; none where the
+    """The lines of what the only case of a file answered, which is printed since the case wants something else; none if the
     program says that it had no memory for them."""
     status, out, err = answer
     found = re.search(rb"\nfound, status (\d+):\n((?s:.*))\n0 cases agree, 1 differ\n", out)
@@ -242,7 +242,9 @@ def is_posted(lines, wanted):
         # (who holds the calls gives one up where it has no memory to keep it; a board is compared by its text)
         return False
     idle = ("Event WrongState", NOT_HELD, "Idle", "Done")
-    replies = lambda all_lines: [it for it in all_lines if not it.startswith("Memory") and it not in idle]
+
+    def replies(all_lines):
+        return [it for it in all_lines if not it.startswith("Memory") and it not in idle]
     if replies(lines) != replies(wanted):
         raise Wrong
     return is_refused
@@ -271,8 +273,10 @@ def of_the_lock():
     """Two jobs by two workers: the moves of a clerk, who is asked more often than there are moves, and each event of a leg twice."""
     named, _ = blocks_of("pools")
     exits = '{"code":0,"env":{},"kind":"exit","outputs":{}}'
-    events = lambda leg: [f'{{{answer}"event":"{event}","leg":{leg},"worker":{leg}}}' for event, answer in (
-        ("take", ""), ("begin", ""), ("end", f'"answer":{exits},'), ("finish", ""))]
+
+    def events(leg):
+        return [f'{{{answer}"event":"{event}","leg":{leg},"worker":{leg}}}' for event, answer in (
+            ("take", ""), ("begin", ""), ("end", f'"answer":{exits},'), ("finish", ""))]
     lines = ["clerk 0"] * 6 + [it for leg in (0, 1) for it in events(leg) for _ in range(2)] + ["clerk 1"] * 2
     return "\n".join(["? posts 2", *(f"< {it}" for it in [text_in(named, "two"), *lines])])
 

@@ -51,9 +51,11 @@ build_unproved() {
 }
 
 build_locked() {
-  local sum room status
+  local sum room status last='' since
   until choose "$1"; do
-    say "building $1 from these sources without proofs, once: some 100 seconds"
+    { read -r last <"$2/seconds"; } 2>/dev/null
+    say "building $1 from these sources without proofs, once${last:+ (the last time it took $last seconds)}"
+    since=$SECONDS
     sum=$(sources "$1" unproved)
     room=$(plain_folder) || return
     trap 'stop_build "$room"' INT TERM HUP
@@ -63,6 +65,7 @@ build_locked() {
     status=$?
     rm -rf "$room"
     [ "$status" -eq 0 ] || return "$status"
+    echo $((SECONDS - since)) >"$2/seconds"
   done
 }
 

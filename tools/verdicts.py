@@ -117,7 +117,9 @@ def main():
     behind, processors, began = chains(crates, takes), rt.processors(), time.monotonic()
     proved = {it.name for it in crates if is_built(rt, it)}
     left, failed, running = [it for it in crates if it.name not in proved], set(), {}
-    minutes = lambda: round(sum(takes[it.name] for it in crates if it.name not in proved))
+
+    def minutes():
+        return round(sum(takes[it.name] for it in crates if it.name not in proved))
     print(f"{len(proved)} of {len(crates)} crates are built; the others take some {minutes()} processor minutes", flush=True)
     with ThreadPoolExecutor(processors) as pool:
         while left or running:

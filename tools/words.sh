@@ -23,6 +23,17 @@ by turns	interleaved
 is let go	is freed
 Numbers are whole	Expressions support integers only
 half a character	an unpaired surrogate
+truth values?	boolean
+whole numbers	integers
+each of which	a second sentence
+for want of	without
+made of	built from
+besides	also
+dear	expensive
+stops no other	the others still run
+nothing begins so	unexpected character
+has not the form	does not have the form
+what comes of	the result of
 is what is there	using it, the installed version
 make anew	make again
 END
@@ -32,7 +43,8 @@ main() {
   local words better good=0 bad=0 found
   while IFS=$'\t' read -r words better; do
     if found=$(grep -rnIEi --exclude-dir=__pycache__ --exclude=words.sh -- "(^|[^A-Za-z_\`'\"-])($words)([^A-Za-z_-]|\$)" \
-      README.md SECURITY.md CONTRIBUTING.md docs front tools bench actrun completions editors); then
+      README.md SECURITY.md CONTRIBUTING.md CHANGELOG.md crates/conformance/README.md \
+      docs front tools bench actrun completions editors); then
       printf '%s\n' "$found" | sed "s|\$|   -- write: $better|"
       bad=$((bad + 1))
     else
