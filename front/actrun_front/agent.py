@@ -12,6 +12,8 @@ What starts here is started with the filter, without new privileges, and where t
 (Landlock, from Linux 6.12 on) without the abstract sockets of other programs. It has plain signals, whatever
 `try` was started with.
 """
+from __future__ import annotations
+
 import _socket
 import array
 import ctypes
@@ -25,7 +27,8 @@ MOST = 32 * 1024 * 1024         # bytes that a step may hand on in one file
 NO_NEW_PRIVILEGES, SECCOMP, WITH_FILTER = 38, 22, 2
 CREATE_RULES, RESTRICT = 444, 446
 NOT_FOUND, NOT_EXECUTABLE = 127, 126
-SIGNALS = {b"I": signal.SIGINT, b"T": signal.SIGTERM}  # that the front sends to a step, by the letter that the shim sends
+# that the front sends to a step, by the letter that the shim sends
+SIGNALS = {b"I": signal.SIGINT, b"T": signal.SIGTERM}
 
 
 class Program(ctypes.Structure):
@@ -34,7 +37,7 @@ class Program(ctypes.Structure):
     _fields_ = [("length", ctypes.c_ushort), ("code", ctypes.c_void_p)]
 
 
-def confine(code):
+def confine(code: bytes) -> bool:
     """Takes from this process and all that it starts: new privileges, abstract sockets from outside, and
     the calls of the filter."""
     libc = ctypes.CDLL(None, use_errno=True)
@@ -42,7 +45,7 @@ def confine(code):
         raise OSError(ctypes.get_errno(), "no_new_privs cannot be set")
     rules = array.array("Q", [0, 0, 1])  # no files, no network; the scope of abstract sockets
     number = libc.syscall(CREATE_RULES, ctypes.c_void_p(rules.buffer_info()[0]), ctypes.c_size_t(24), 0)
-    scoped = number >= 0 and libc.syscall(RESTRICT, number, 0) == 0
+    scoped: bool = number >= 0 and libc.syscall(RESTRICT, number, 0) == 0
     if number >= 0:
         os.close(number)
     if code:
@@ -53,8 +56,8 @@ def confine(code):
     return scoped
 
 
-def received(sock):
-    """The descriptors of the next message; none where the other side is closed."""
+def received(sock: _socket.socket) -> list[int]:
+    """The descriptors of the next message; none if the other side is closed."""
     numbers = array.array("i")
     text, more, _, _ = sock.recvmsg(1, _socket.CMSG_SPACE(3 * numbers.itemsize), _socket.MSG_CMSG_CLOEXEC)
     for level, kind, data in more:
@@ -63,7 +66,7 @@ def received(sock):
     return list(numbers) if text else []
 
 
-def read_all(number, length):
+def read_all(number: int, length: int) -> bytes:
     """That many bytes of a descriptor; fewer at its end."""
     parts = []
     while length:
@@ -75,21 +78,21 @@ def read_all(number, length):
     return b"".join(parts)
 
 
-def write_all(number, data):
+def write_all(number: int, data: bytes) -> None:
     """Writes bytes to a descriptor, all of them."""
     view = memoryview(data)
     while view:
         view = view[os.write(number, view):]
 
 
-def found(name, variables):
+def found(name: bytes, variables: dict[bytes, bytes]) -> list[bytes]:
     """The places of a program by the variable PATH of a step, as the C library tries them."""
     if b"/" in name:
         return [name]
     return [os.path.join(folder, name) for folder in variables.get(b"PATH", b"/bin:/usr/bin").split(b":")]
 
 
-def start(words, variables, folder, output):
+def start(words: list[bytes], variables: dict[bytes, bytes], folder: bytes, output: int) -> int:
     """Starts a program in a session of its own; gives its process."""
     process = os.fork()
     if process:
@@ -98,8 +101,8 @@ def start(words, variables, folder, output):
     try:
         os.setsid()
         null = os.open("/dev/null", os.O_RDONLY)
-        for number, place in ((null, 0), (output, 1), (output, 2)):
-            os.dup2(number, place)
+        for stream, number in ((null, 0), (output, 1), (output, 2)):
+            os.dup2(stream, number)
         for number in set(signal.Signals) - {signal.SIGKILL, signal.SIGSTOP}:
             if signal.getsignal(number) is not signal.SIG_DFL:
                 signal.signal(number, signal.SIG_DFL)
@@ -119,7 +122,7 @@ def start(words, variables, folder, output):
         os._exit(status)
 
 
-def end(leader, number):
+def end(leader: int, number: int) -> None:
     """Sends a signal to all processes in the session of a step."""
     for name in os.listdir("/proc"):
         try:
@@ -129,7 +132,7 @@ def end(leader, number):
             continue
 
 
-def drop(pipes, ready):
+def drop(pipes: list[int], ready: list[int]) -> None:
     """Reads what earlier steps' programs print on, and drops it."""
     for number in [one for one in pipes if one in ready]:
         try:
@@ -143,7 +146,7 @@ def drop(pipes, ready):
         os.close(number)
 
 
-def waited(process, connection, pipes):
+def waited(process: int, connection: int, pipes: list[int]) -> int:
     """How a step ended: its exit status, or the number of the signal below zero."""
     handle = os.pidfd_open(process)
     while True:
@@ -160,7 +163,7 @@ def waited(process, connection, pipes):
             return os.waitstatus_to_exitcode(os.waitpid(process, 0)[1])
 
 
-def left(path):
+def left(path: bytes) -> bytes | None:
     """What a step left in a file that it hands on: a file alone, no link and no pipe, of a length that can
     be read."""
     try:
@@ -175,7 +178,7 @@ def left(path):
         os.close(number)
 
 
-def step(pipes, connection, output, *readers):
+def step(pipes: list[int], connection: int, output: int, *readers: int) -> None:
     """Executes one step that a connection brings."""
     length = int.from_bytes(read_all(connection, 8), "little")
     words, variables, files, handed, folder = marshal.loads(read_all(connection, length))
@@ -200,7 +203,7 @@ def step(pipes, connection, output, *readers):
     os.close(connection)
 
 
-def told(sock):
+def told(sock: _socket.socket) -> None:
     """Tells the front that a step has ended."""
     try:
         sock.send(b"e", _socket.MSG_DONTWAIT)
@@ -208,14 +211,14 @@ def told(sock):
         pass
 
 
-def main():
+def main() -> None:
     """Takes steps until nobody hands on any more."""
     sock = _socket.socket(fileno=int(sys.argv[1]))
     os.set_inheritable(sock.fileno(), False)
     os.umask(0o022)
     code = sock.recv(1 << 16)
     sock.send(b"+" if confine(code if code != b"-" else b"") else b"-")
-    pipes = []
+    pipes: list[int] = []
     while True:
         ready = select.select([sock.fileno(), *pipes], [], [])[0]
         drop(pipes, ready)

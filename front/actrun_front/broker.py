@@ -22,9 +22,9 @@ import threading
 import time
 from dataclasses import dataclass
 from pathlib import Path
-from typing import IO, Any, Callable, Iterable, Sequence
+from typing import IO, Any, Callable, Iterable, Mapping, Sequence
 
-from . import Problem, sandbox, seccomp, system_faults
+from . import Problem, network, sandbox, seccomp, system_faults
 from .tree import Room
 
 HERE = Path(__file__).resolve().parent
@@ -50,7 +50,6 @@ exec(shim)
 PATIENCE = 60.0                 # seconds until a sandbox has to be there
 # seconds without a step, after which a leg has ended if its sandbox is one too many
 IDLE = 5.0
-MOST_ANSWER = 12                # bytes of what an agent says of a command of the front
 
 
 @dataclass
@@ -62,6 +61,7 @@ class Leg:
     errors: IO[bytes]
     idle: float | None = None   # since when it executes no step
     scoped: bool = False        # whether abstract sockets of other programs are out of its reach
+    own: network.Own | None = None  # its network, if that is not the machine's
 
     def end(self) -> None:
         """Ends all that executes in it."""
@@ -69,6 +69,8 @@ class Leg:
         self.process.wait()
         self.agent.close()
         self.errors.close()
+        if self.own:
+            self.own.end()
 
 
 def heard(agent: socket.socket) -> bool:
@@ -108,17 +110,21 @@ def compiled(path: Path) -> Any:
 
 class Broker:
     """The sandboxes of one execution. `words_of` gives the words of a leg's sandbox; `python` executes the
-    agents there, after the words `before`. With `most` sandboxes of legs that have ended are ended where there
-    are more; a leg that goes on all the same gets a new one. `limit` is that of what a step prints, as the shim
-    reads it."""
+    agents there, after the words `before`. With `most` sandboxes of legs that have ended are ended where
+    there are more; a leg that goes on all the same gets a new one. `told` are the files that the shim reads.
+    `maker` gives legs networks of their own, but for those that the engine's containers share."""
 
-    def __init__(self, room: Room, words_of: Callable[[int], list[str]], python: str, most: int = 0,
-                 before: Sequence[str] = (), limit: str = "0 ") -> None:
+    def __init__(self, room: Room, words_of: Callable[[int], list[str]], python: str, most: int,
+                 before: Sequence[str], told: Mapping[str, bytes], maker: str = "") -> None:
         self.room, self.words_of, self.python, self.most = room, words_of, python, most
-        self.before, self.limit = before, limit
+        self.before, self.told, self.maker = before, told, maker
+        self.no_network = ""        # why there is none of a leg's own
         self.legs: dict[int, Leg] = {}
         self.relays: dict[int, Any] = {}  # of legs whose steps do not go to their agent alone
         self.breaks: Any = None     # has legs that wait for a person
+        self.keeper: Any = None     # keeps workspaces after steps
+        # answer steps that are not executed
+        self.known: dict[tuple[int, int], Callable[[socket.socket, int], None]] = {}
         self.ended: list[Leg] = []  # whose agents steps have ended
         self.problem: Problem | None = None
         self.folder = room.folder / "socket"
@@ -131,7 +137,11 @@ class Broker:
         self.shim.write_text(LOADER, encoding="utf-8")
         self.shim.chmod(0o500)
         (self.folder / "code").write_bytes(marshal.dumps((compiled(ONE_STREAM), compiled(SHIM))))
-        (self.folder / "limit").write_text(self.limit, encoding="utf-8")
+        for name, text in self.told.items():
+            (self.folder / name).write_bytes(text)
+        self.resolver = self.folder / "resolver"
+        self.resolver.write_text(network.resolver(), encoding="utf-8")
+        self.resolver.chmod(0o444)
         self.server = socket.socket(socket.AF_UNIX, socket.SOCK_STREAM)
         number = os.open(self.folder, os.O_DIRECTORY | os.O_PATH)
         self.server.bind(f"/proc/self/fd/{number}/steps")  # (a name of a socket is short)
@@ -149,30 +159,71 @@ class Broker:
             leg.end()
         for one in (self.server, self.woken):
             one.close()
-        for name in ("steps", "shim", "code", "limit"):
+        for name in ("steps", "shim", "code", *self.told, "resolver"):
             (self.folder / name).unlink()
         self.folder.rmdir()
 
     def leg(self, number: int) -> Leg:
-        """The sandbox of a leg; the first time it is made. Raises Problem where that fails."""
+        """The sandbox of a leg; the first time it is made. Raises Problem if that fails."""
         with self.guard:
             if number not in self.legs:
                 try:
-                    self.legs[number] = self.made(self.words_of(number))
+                    self.legs[number] = self.made(number)
                 except OSError as error:
                     if error.errno in FULL:
                         raise
                     raise sandbox.no_sandbox(f"{error.filename or 'bwrap'}: {error.strerror}") from None
             return self.legs[number]
 
-    def made(self, words: Sequence[str]) -> Leg:
+    def begin(self, number: int, data: bytes, output: int) -> socket.socket:
+        """Has the agent of a leg execute a request, which prints into a descriptor that is closed here; gives
+        the connection with the answer. Raises Problem if there is no sandbox."""
+        ours, theirs = socket.socketpair()
+        try:
+            leg = self.leg(number)
+            leg.idle = None
+            socket.send_fds(leg.agent, [b"s"], [theirs.fileno(), output])
+        finally:
+            theirs.close()
+            os.close(output)
+        ours.sendall(len(data).to_bytes(8, "little") + data)
+        return ours
+
+    def made(self, number: int) -> Leg:
+        """A leg's sandbox, with a network of its own where that can be made."""
+        if self.maker and number not in self.relays:
+            try:
+                return self.made_apart(self.words_of(number))
+            except network.NoNetwork as problem:
+                self.maker, self.no_network = "", str(problem)
+        return self.made_of(self.words_of(number))
+
+    def made_apart(self, words: Sequence[str]) -> Leg:
+        """A sandbox with a network of its own. Raises NoNetwork if that cannot be made."""
+        told, info = os.pipe()
+        at = words.index("--remount-ro")
+        try:
+            leg = self.made_of([*words[:at], *network.words(info, self.resolver), *words[at:]], info)
+        finally:
+            os.close(info)
+        try:
+            leg.own = network.connect(self.maker, told)
+        except network.NoNetwork:
+            leg.end()
+            raise
+        finally:
+            os.close(told)
+        return leg
+
+    def made_of(self, words: Sequence[str], *keep: int) -> Leg:
         """A sandbox with its agent, which has said that it waits for steps."""
         ours, theirs = socket.socketpair(socket.AF_UNIX, socket.SOCK_SEQPACKET)
         errors = tempfile.TemporaryFile()
         ours.send(self.filter or b"-")
         command = [*self.before, self.python, "-ISB", os.fspath(AGENT), str(theirs.fileno())]
-        process = sandbox.start(words, command, [theirs.fileno()], stdin=subprocess.DEVNULL, stdout=errors,
-                                stderr=errors)
+        process = sandbox.start(
+            words, command, [theirs.fileno(), *keep], stdin=subprocess.DEVNULL, stdout=errors, stderr=errors
+        )
         theirs.close()
         leg = Leg(process, ours, errors)
         try:
@@ -203,7 +254,7 @@ class Broker:
                     self.ended.append(self.legs.pop(number))
 
     def spare(self) -> None:
-        """Ends the sandboxes of legs that have ended, as it seems, where there are too many."""
+        """Ends the sandboxes of legs that have ended, as it seems, if there are too many."""
         waits = self.breaks.since if self.breaks else ()
         legs = ((number, leg) for number, leg in self.legs.items() if number not in waits)
         idle = sorted((leg.idle, number) for number, leg in legs if leg.idle is not None)
@@ -237,40 +288,29 @@ class Broker:
 
     def hand_on(self, connection: socket.socket) -> None:
         """Hands one connection on, with the pipe for what the step prints."""
-        text, numbers, _, _ = socket.recv_fds(connection, 8, 2)
-        place = int.from_bytes(text, "little")
-        relay, asks = self.relays.get(place), self.breaks and self.breaks.wants(place)
+        text, numbers, _, _ = socket.recv_fds(connection, 16, 2)
+        place, step = (int.from_bytes(text[at:at + 8], "little") for at in (0, 8))
+        relay, breaks = self.relays.get(place), self.breaks
+        known, inner = self.known.get((place, step)), connection
         try:
+            if known and numbers:
+                known(connection.dup(), os.dup(numbers[0]))
+                return
             leg = self.leg(place)  # (here, since a sandbox ends with the thread that made it)
             leg.idle = None
             connection.settimeout(None)
-            if asks and len(numbers) == 2:
-                return self.breaks.take(place, connection.dup(), *map(os.dup, numbers))
-            if relay and len(numbers) == 2:
-                return relay.take(connection.dup(), *map(os.dup, numbers))
-            socket.send_fds(leg.agent, [b"s"], [connection.fileno(), *numbers])
+            inner = self.keeper.hold(place, step, connection) if self.keeper else connection
+            if breaks and breaks.wants(place) and len(numbers) == 2:
+                breaks.take(place, inner.dup(), *map(os.dup, numbers))
+            elif relay and len(numbers) == 2:
+                relay.take(inner.dup(), *map(os.dup, numbers))
+            else:
+                socket.send_fds(leg.agent, [b"s"], [inner.fileno(), *numbers])
         finally:
             for number in numbers:
                 os.close(number)
-
-    def execute(self, number: int, words: Sequence[str], variables: dict[str, str],
-                show: Callable[[str], None]) -> None:
-        """Executes a command in the sandbox of a leg, and shows what it prints."""
-        ours, theirs = socket.socketpair()
-        reader, writer = os.pipe()
-        encoded = {os.fsencode(name): os.fsencode(value) for name, value in variables.items()}
-        data = marshal.dumps(([os.fsencode(word) for word in words], encoded, {}, [],
-                              os.fsencode(self.room.play)))
-        with open(reader, "rb") as lines, ours:
-            try:
-                with theirs, open(writer, "wb"):
-                    socket.send_fds(self.leg(number).agent, [b"s"], [theirs.fileno(), writer])
-                ours.sendall(len(data).to_bytes(8, "little") + data)
-                for line in lines:
-                    show(line[:10000].decode("utf-8", "replace").removesuffix("\n"))
-                ours.recv(MOST_ANSWER)
-            except OSError:  # (a step has ended the agent)
-                return
+            if inner is not connection:
+                inner.close()
 
     def program_words(self, words: Sequence[str], variables: dict[str, str],
                       programs: Iterable[str]) -> list[str]:

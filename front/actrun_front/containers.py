@@ -29,14 +29,62 @@ HEALTHY_WITHIN = 300    # seconds in which a service has to be healthy, at least
 # options of `docker create` that a workflow may give: none shows or changes something of this machine. The
 # numbers are of their values
 OPTIONS = {
-    **dict.fromkeys((
-        "--health-cmd", "--health-interval", "--health-retries", "--health-timeout", "--health-start-period",
-        "--hostname", "--cpus", "--cpu-shares", "--memory", "--memory-swap", "--pids-limit", "--shm-size", "--tmpfs", "--ulimit",
-        "--workdir", "--user", "--env", "--label", "--entrypoint", "--cap-drop", "--stop-signal", "--stop-timeout",
-        "--name", "--network-alias", "--add-host", "--dns", "--expose", "--mac-address", "--platform",
-        "-h", "-m", "-w", "-u", "-e", "-l"), 1),
-    **dict.fromkeys(("--init", "--read-only", "--no-healthcheck", "--rm", "--tty", "--interactive",
-                     "-t", "-i", "-it", "-ti"), 0)}
+    **dict.fromkeys(
+        (
+            "--health-cmd",
+            "--health-interval",
+            "--health-retries",
+            "--health-timeout",
+            "--health-start-period",
+            "--hostname",
+            "--cpus",
+            "--cpu-shares",
+            "--memory",
+            "--memory-swap",
+            "--pids-limit",
+            "--shm-size",
+            "--tmpfs",
+            "--ulimit",
+            "--workdir",
+            "--user",
+            "--env",
+            "--label",
+            "--entrypoint",
+            "--cap-drop",
+            "--stop-signal",
+            "--stop-timeout",
+            "--name",
+            "--network-alias",
+            "--add-host",
+            "--dns",
+            "--expose",
+            "--mac-address",
+            "--platform",
+            "-h",
+            "-m",
+            "-w",
+            "-u",
+            "-e",
+            "-l",
+        ),
+        1,
+    ),
+    **dict.fromkeys(
+        (
+            "--init",
+            "--read-only",
+            "--no-healthcheck",
+            "--rm",
+            "--tty",
+            "--interactive",
+            "-t",
+            "-i",
+            "-it",
+            "-ti",
+        ),
+        0,
+    ),
+}
 LEFT_OUT = ("--name", "--rm", "--tty", "--interactive", "-t", "-i", "-it", "-ti")  # they would disturb
 
 
@@ -49,7 +97,7 @@ class EngineError(Exception):
 
 
 def started(process: int | str = "self") -> str:
-    """When a process started, by the clock of the kernel; nothing where there is none."""
+    """When a process started, by the clock of the kernel; nothing if there is none."""
     try:
         return Path(f"/proc/{process}/stat").read_text(encoding="utf-8",
                                                        errors="replace").rpartition(")")[2].split()[19]
@@ -70,7 +118,7 @@ def is_alive(name: str) -> bool:
 
 
 def options_of(text: str, what: str) -> list[str]:
-    """The options of a container by its key `options`. Raises EngineError where one would reach this
+    """The options of a container by its key `options`. Raises EngineError if one would reach this
     machine."""
     try:
         words, result = shlex.split(text), []
@@ -133,7 +181,7 @@ class Engine:
                                            errors.decode("utf-8", "replace"))
 
     def need(self, what: str, *words: str, text: str = "") -> str:
-        """What the engine prints, without the last newline. Raises EngineError where it fails."""
+        """What the engine prints, without the last newline. Raises EngineError if it fails."""
         answer = self.ask(*words, text=text)
         if answer.returncode != 0:
             lines = answer.stderr.strip().splitlines() or [f"{self.name} says nothing"]
@@ -145,7 +193,7 @@ class Engine:
         return ["--label", f"{EXECUTION}={self.execution}", "--label", f"{OWNER}={owner()}"]
 
     def bring(self, image: str, offline: bool, credentials: dict[str, str], folder: Path) -> str:
-        """The number of an image, which is pulled if it is not there. Raises EngineError where that fails."""
+        """The number of an image, which is pulled if it is not there. Raises EngineError if that fails."""
         if not IMAGE.fullmatch(image):
             raise EngineError(f"the image {image} has no name of an image: "
                               "write it as debian:12 or ghcr.io/owner/name:tag")
@@ -157,11 +205,12 @@ class Engine:
                          image)
 
     def pull(self, image: str, offline: bool, credentials: dict[str, str], folder: Path) -> None:
-        """Pulls an image. Raises EngineError where that fails."""
+        """Pulls an image. Raises EngineError if that fails."""
         if offline:
             raise EngineError(f"the image {image} is not there, and --offline took the network away: "
                               f"{self.name} pull {image}")
-        before, after = [], []
+        before: list[str] = []
+        after: list[str] = []
         if credentials.get("username"):
             host = image.partition("/")[0] if re.match(r"[^/]*[.:][^/]*/|localhost/", image) else "docker.io"
             before, after = (["--config", str(folder)],
@@ -183,7 +232,7 @@ class Engine:
         return (answer.stdout + answer.stderr).rstrip("\n")
 
     def await_health(self, container: str, what: str, options: Sequence[str]) -> None:
-        """Waits until a container is healthy that says how to ask for that. Raises EngineError where it is
+        """Waits until a container is healthy that says how to ask for that. Raises EngineError if it is
         not in time."""
         check = self.ask("inspect", "--format", "{{json .Config.Healthcheck}}", container).stdout.strip()
         if check in ("", "null", "<no value>", "{}"):
@@ -211,16 +260,19 @@ class Engine:
     def remove(self, name: str, value: str) -> None:
         """Removes all containers, networks and images with a label, and what they kept."""
         label = f"label={name}={value}"
-        containers = self.ask("ps", "--all", "--quiet", "--filter", label).stdout.split()
-        if containers:
-            self.ask("rm", "--force", "--volumes", *(["--time", "0"] if self.name == "podman" else []),
-                     *containers)
-        networks = self.ask("network", "ls", "--quiet", "--filter", label).stdout.split()
-        if networks:
-            self.ask("network", "rm", *networks)
+        self.discard(self.ask("ps", "--all", "--quiet", "--filter", label).stdout.split(),
+                     self.ask("network", "ls", "--quiet", "--filter", label).stdout.split())
         images = self.ask("images", "--quiet", "--filter", label).stdout.split()
         if images:
             self.ask("rmi", "--force", *dict.fromkeys(images))
+
+    def discard(self, containers: list[str], networks: list[str]) -> None:
+        """Removes containers with their volumes, then networks."""
+        if containers:
+            self.ask("rm", "--force", "--volumes", *(["--time", "0"] if self.name == "podman" else []),
+                     *containers)
+        if networks:
+            self.ask("network", "rm", *networks)
 
     def sweep(self) -> None:
         """Removes what executions left whose process is not there any more."""
@@ -241,7 +293,10 @@ def find(wanted: str | None) -> Engine | str:
             whys.append(f"{name} is not installed")
             continue
         engine = Engine(name, path)
-        asked = {"podman": ("info", "{{.Host.OCIRuntime.Name}}"), "docker": ("version", "{{.Server.Version}}")}[name]
+        asked = {
+            "podman": ("info", "{{.Host.OCIRuntime.Name}}"),
+            "docker": ("version", "{{.Server.Version}}"),
+        }[name]
         answer = engine.ask(asked[0], "--format", asked[1], patience=60)
         if answer.returncode == 0:
             return engine
@@ -283,6 +338,6 @@ def lacks(options: Any) -> str:
 
 
 def missing(why: str) -> str:
-    """The end of the sentence that refuses a job which needs an engine, where there is none."""
+    """The end of the sentence that refuses a job which needs an engine, if there is none."""
     return (f"needs podman or docker ({why}): apt-get install podman, "
             "or --lenient executes its steps on this machine, without it")

@@ -2,6 +2,7 @@
 and deleted by descriptors."""
 from __future__ import annotations
 
+import contextlib
 import errno
 import os
 import stat
@@ -53,7 +54,7 @@ def open_file(base: str | os.PathLike[str], *parts: str) -> int:
 
 
 def content(number: int, path: str | os.PathLike[str], most: int) -> bytes:
-    """The bytes of a descriptor, which is closed. Raises Unfit where there are more than `most`."""
+    """The bytes of a descriptor, which is closed. Raises Unfit if there are more than `most`."""
     with open(number, "rb") as file:
         data = b"" if os.fstat(number).st_size > most else file.read(most + 1)
         if len(data) > most or os.fstat(number).st_size > most:
@@ -64,6 +65,27 @@ def content(number: int, path: str | os.PathLike[str], most: int) -> bytes:
 def read_below(base: str | os.PathLike[str], *parts: str, most: int = MOST) -> bytes:
     """The bytes of a plain file below `base`; no part of its path is a link."""
     return content(open_file(base, *parts), os.path.join(base, *parts), most)
+
+
+def read_named(path: str | os.PathLike[str], most: int) -> bytes:
+    """The bytes of a file that a person has named, at most one more than `most`. A pipe that nobody writes is
+    empty."""
+    number = os.open(path, os.O_RDONLY | os.O_NONBLOCK | os.O_CLOEXEC)
+    with open(number, "rb") as file:
+        mode = os.fstat(number).st_mode
+        if not stat.S_ISREG(mode) and not stat.S_ISFIFO(mode):
+            raise unfit(path, "this is no plain file")
+        os.set_blocking(number, True)
+        return file.read(most + 1)
+
+
+def first_bytes(base: str | os.PathLike[str], *parts: str, most: int) -> bytes:
+    """The first bytes of a plain file below `base`; nothing if it cannot be read. No part of its path is a
+    link."""
+    with contextlib.suppress(OSError):
+        with open(open_file(base, *parts), "rb") as file:
+            return file.read(most)
+    return b""
 
 
 def parts_inside(top: str | os.PathLike[str], path: str | os.PathLike[str]) -> tuple[str, tuple[str, ...]]:
@@ -79,7 +101,7 @@ def open_inside(top: str | os.PathLike[str], path: str | os.PathLike[str]) -> in
     """A descriptor of a plain file of a repository, which no link leads out of."""
     root, parts = parts_inside(top, path)
     if not parts:
-        raise unfit(path, "this is a folder")
+        raise unfit(path, "this is a directory")
     return open_file(root, *parts)
 
 
@@ -88,19 +110,23 @@ def read_inside(top: str | os.PathLike[str], path: str | os.PathLike[str], most:
     return content(open_inside(top, path), path, most)
 
 
-def write_new(base: str | os.PathLike[str], *parts: str, text: str, mode: int = 0o600) -> None:
-    """Writes a file that is new, in place of whatever has its name; no part of its path is a link."""
+def new_file(base: str | os.PathLike[str], *parts: str, mode: int = 0o600) -> int:
+    """A descriptor of a new file, in place of whatever has its name; no part of its path is a link."""
     folder = open_folder(base, parts[:-1])
     try:
         try:
             os.unlink(parts[-1], dir_fd=folder)
         except FileNotFoundError:
             pass
-        number = os.open(parts[-1], os.O_WRONLY | os.O_CREAT | os.O_EXCL | NO_LINK, mode, dir_fd=folder)
-        with open(number, "w", encoding="utf-8", errors="replace") as file:
-            file.write(text)
+        return os.open(parts[-1], os.O_WRONLY | os.O_CREAT | os.O_EXCL | NO_LINK, mode, dir_fd=folder)
     finally:
         os.close(folder)
+
+
+def write_new(base: str | os.PathLike[str], *parts: str, text: str, mode: int = 0o600) -> None:
+    """Writes a file that is new, in place of whatever has its name; no part of its path is a link."""
+    with open(new_file(base, *parts, mode=mode), "w", encoding="utf-8", errors="replace") as file:
+        file.write(text)
 
 
 def names(base: str | os.PathLike[str], *parts: str, most: int = 100_000) -> list[str]:
@@ -125,7 +151,7 @@ def identity(path: str | os.PathLike[str]) -> tuple[int, int]:
 
 
 def writable(folder: int, name: str) -> int | None:
-    """A descriptor of a folder in a folder that was made readable and writable; None where `name` is no
+    """A descriptor of a folder in a folder that was made readable and writable; None if `name` is no
     folder."""
     try:
         number = os.open(name, FOLDER, dir_fd=folder)
@@ -176,6 +202,26 @@ def remove_below(base: str | os.PathLike[str], *parts: str) -> bool:
         return False
     finally:
         os.close(above)
+
+
+def move_below(source: str | os.PathLike[str], base: str | os.PathLike[str], *parts: str) -> None:
+    """Moves a folder to a place below `base`, over what is there; no part of that path is a link. Folders on
+    the way are made."""
+    for at in range(1, len(parts)):
+        folder = open_folder(base, parts[:at - 1])
+        try:
+            os.mkdir(parts[at - 1], 0o755, dir_fd=folder)
+        except FileExistsError:
+            pass
+        finally:
+            os.close(folder)
+    folder = open_folder(base, parts[:-1])
+    try:
+        if not remove_below(base, *parts) and os.path.lexists(f"/proc/self/fd/{folder}/{parts[-1]}"):
+            os.unlink(parts[-1], dir_fd=folder)
+        os.rename(source, parts[-1], dst_dir_fd=folder)
+    finally:
+        os.close(folder)
 
 
 def remove_entry(above: int, name: str) -> bool:
@@ -233,7 +279,7 @@ def empty(root: int, name: str, count: int) -> int:
 
 
 def moved(name: str, inner: int, root: int, new: str) -> int:
-    """Moves a folder up; 1 where that worked."""
+    """Moves a folder up; 1 if that worked."""
     try:
         os.rename(name, new, src_dir_fd=inner, dst_dir_fd=root)
         return 1

@@ -53,5 +53,5 @@ def shown(room: Room) -> list[Path]:
 
 
 def variables(room: Room) -> dict[str, str]:
-    """The variable by which actions/checkout finds the copy; none where the workspace has it already."""
+    """The variable by which actions/checkout finds the copy; none if the workspace has it already."""
     return {"ACTRUN_SOURCE": str(folder) for folder in shown(room)}

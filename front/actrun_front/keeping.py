@@ -7,12 +7,17 @@ from __future__ import annotations
 import contextlib
 import fcntl
 import os
+import re
 import time
 from pathlib import Path
 from typing import IO, Iterator
 
+from .files import names
+
 KEPT = 5
 PROTECTED = 3600.0  # seconds after its end in which no work folder is removed
+ASIDE = ".shown"
+LOG_ASIDE = re.compile(r"step-\d+-\d+\.shown")
 BOOT = Path("/proc/sys/kernel/random/boot_id")
 
 
@@ -34,7 +39,7 @@ def folders_of(parent: Path) -> list[Path]:
 
 
 def number_of(folder: Path) -> int:
-    """The number of a work folder; 0 where it has none."""
+    """The number of a work directory; 0 if it has none."""
     try:
         text = (folder / "lock").read_text(encoding="ascii").strip()
         return int(text) if text.isdigit() and len(text) < 19 else 0
@@ -48,7 +53,7 @@ def next_number(parent: Path) -> int:
 
 
 def lock_folder(folder: Path) -> IO[str] | None:
-    """The lock of a work folder; None where an execution has it."""
+    """The lock of a work folder; None if an execution has it."""
     lock = open(folder / "lock", "a", encoding="ascii")
     try:
         fcntl.flock(lock, fcntl.LOCK_EX | fcntl.LOCK_NB)
@@ -74,7 +79,7 @@ def boot() -> str:
 
 
 def seconds_since_end(folder: Path) -> float | None:
-    """How long ago an execution ended, also where the clock was set; None where that is not known."""
+    """How long ago an execution ended, even if the clock was set; None if that is unknown."""
     try:
         name, since, clock = (folder / "ended").read_text(encoding="ascii").split()
         if name == boot():
@@ -84,8 +89,25 @@ def seconds_since_end(folder: Path) -> float | None:
         return None
 
 
+def put_aside(folder: Path, leg: int, step: int) -> None:
+    """Gives the log of a step that has ended another name until the execution has: the program would show it
+    then, slowly and a second time."""
+    with contextlib.suppress(OSError):
+        os.rename(folder / f"step-{leg}-{step}.log", folder / f"step-{leg}-{step}{ASIDE}")
+
+
+def put_back(folder: Path) -> None:
+    """Gives the logs of an execution their names."""
+    for name in names(folder):
+        if LOG_ASIDE.fullmatch(name):
+            with contextlib.suppress(OSError):
+                os.rename(folder / name, folder / (name[:-len(ASIDE)] + ".log"))
+
+
 def recover(private: Path) -> bool:
-    """Whether the program was ended before it wrote its whole record, which gets the events of `record.part` then."""
+    """Whether the program was ended before it wrote its whole record, which gets the events of `record.part`
+    then."""
+    put_back(private.parent / "play")
     record, part = private / "record", private / "record.part"
     if not part.is_file() or part.is_symlink():
         return False
@@ -117,7 +139,8 @@ def recover_ended(folder: Path) -> None:
 
 
 def choose_old(parent: Path, own: Path, kept: int = KEPT) -> list[tuple[Path, IO[str]]]:
-    """The work folders to remove, with their locks: none of the last ones, nor `own`, nor one in use or just ended."""
+    """The work folders to remove, with their locks: none of the last ones, nor `own`, nor one in use or just
+    ended."""
     chosen = []
     with held(parent):
         for folder in folders_of(parent)[:-kept]:

@@ -1,30 +1,25 @@
-"""What the front hides of the lines that `run` shows: forms of secrets, and of what steps mask."""
+"""What the front hides of the lines of steps: what the program hides, and forms that it does not know."""
 from __future__ import annotations
 
-import os
+import contextlib
 import re
-import stat
 from dataclasses import dataclass, field
 from pathlib import Path
 from typing import BinaryIO, Iterable, Iterator
 
 from .dap_logs import LARGEST, walk
+from .files import open_file
+from .keeping import ASIDE
 from .masks import MOST, Masks, forms
 
 LONGEST = 1 << 16  # bytes of a line that may be a command
-BEGINNING = 1000  # characters by which a longer line is known
 ADD_MASK = re.compile(rb"add-mask", re.IGNORECASE)
 
 
 def open_left(path: Path) -> BinaryIO | None:
-    """A regular file that a step may have left, opened without following a link; None where there is none."""
-    try:
-        file = open(os.open(path, os.O_RDONLY | os.O_NOFOLLOW | os.O_NONBLOCK | os.O_CLOEXEC), "rb")
-    except OSError:
-        return None
-    if stat.S_ISREG(os.fstat(file.fileno()).st_mode):
-        return file
-    file.close()
+    """A regular file that a step may have left, opened without following a link; None if there is none."""
+    with contextlib.suppress(OSError):
+        return open(open_file(path.parent, path.name), "rb")
     return None
 
 
@@ -77,60 +72,48 @@ class Layers:
             wanted = {made for form in forms(text) for made in (form, self.inner.hide(form))}
             self.outer.hide_forms({made for made in wanted - self.inner.forms if made.strip("*")})
 
+    def touches(self, text: str) -> bool:
+        """Whether something may be hidden in a text."""
+        return self.inner.touches(text) or self.outer.touches(text)
+
+    def hide(self, text: str) -> str:
+        """What is shown of a line, or of the lines of a message."""
+        if not self.touches(text):
+            return text
+        return "\n".join(map(self.outer.hidden, self.inner.hidden(text).split("\n")))
+
 
 @dataclass
 class LogMasks:
-    """What is hidden in the lines of each step, where these come one after the other."""
+    """What is hidden in the lines of each leg, where these come one after the other."""
 
     secrets: list[str]                                           # that the program hides
     folder: Path | None                                          # of the logs
     legs: dict[int, Layers] = field(default_factory=dict)        # of the legs that mask more
-    rest: Iterator[tuple[str | None, str]] | None = None         # of the log whose lines come
-    more: int = 0                                                # lines of the message that is being shown
 
     def __post_init__(self) -> None:
         self.unknown: list[str] = []  # secrets that the program does not hide, since no text names them
-        self.layers = self.common = Layers(self.secrets)
+        self.common = Layers(self.secrets)
 
     def hide_too(self, secrets: Iterable[str]) -> None:
         """Hides more secrets."""
         self.unknown = [text for text in secrets if text not in self.secrets]
-        self.layers = self.common = Layers(self.secrets, self.unknown)
+        self.common = Layers(self.secrets, self.unknown)
 
-    def begin(self, leg: int, step: int) -> None:
-        """Takes it that the line which begins the output of a step has come."""
-        path = self.folder / f"step-{leg}-{step}.log" if self.folder else None
-        more = path is not None and has_masks(path)
-        if more and leg not in self.legs:
+    def of(self, leg: int) -> Layers:
+        """What is hidden in the next line of a leg."""
+        return self.legs.get(leg, self.common)
+
+    def add(self, leg: int, mask: str) -> None:
+        """Hides what a line of a leg masks, from its next line on."""
+        if leg not in self.legs:
             self.legs[leg] = Layers(self.secrets, self.unknown)
-        self.layers = self.legs.get(leg, self.common)
-        self.rest, self.more = walk(lines_of(path)) if more and path else None, 0
-
-    def advance(self, line: str) -> None:
-        """Takes what is masked before a line that the program shows; lines before it may be left out."""
-        if self.more:
-            self.more -= 1
-            return
-        for shown, mask in self.rest or ():
-            self.layers.add([mask] if mask else [])
-            if shown is not None and self.is_line(line, shown.split("\n", 1)[0]):
-                self.more = shown.count("\n")
-                return
-
-    def is_line(self, line: str, known: str) -> bool:
-        """Whether the program shows a line of a log so; only the beginning of a long one is known."""
-        same = self.layers.inner.hide(known)
-        return line == same or len(known) >= LONGEST // 4 and line[:BEGINNING] == same[:BEGINNING]
-
-    def hide(self, line: str) -> str:
-        """The next line of the step whose output has begun, as it is shown."""
-        if self.rest:
-            self.advance(line)
-        return self.layers.outer.hidden(line)
+        self.legs[leg].add([mask])
 
     def until(self, leg: int, step: int) -> Masks:
         """What is hidden after a step of a leg in all that the step shows."""
         numbers = range(step + 1) if self.folder else ()
-        paths = [self.folder / f"step-{leg}-{number}.log" for number in numbers]  # type: ignore[operator]
+        names = (f"step-{leg}-{number}{ending}" for number in numbers for ending in (".log", ASIDE))
+        paths = [self.folder / name for name in names]  # type: ignore[operator]
         found = [mask for path in paths if has_masks(path) for _, mask in walk(lines_of(path)) if mask]
         return Masks([*self.secrets, *self.unknown, *found])

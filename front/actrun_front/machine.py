@@ -13,7 +13,7 @@ import stat
 import threading
 from dataclasses import dataclass, field
 from pathlib import Path
-from typing import Any, Iterator, Sequence
+from typing import Any, Iterable, Iterator, Sequence
 
 from . import sandbox, tree as rooms
 from .broker import Broker
@@ -21,7 +21,7 @@ from .containers import EXECUTION, Engine, find
 from .files import open_folder, read_below
 from .lower_containers import VARIABLE
 from .present import Leg, Screen, one_line
-from .relay import relays_of
+from .relay import Ended, Shared, relays_of
 from .root import APT, LEG as LEG_THERE, PACKAGES
 from .sudo import write_sudo
 from .tree import Room
@@ -31,6 +31,9 @@ ROOT = Path(__file__).resolve().with_name("root.py")
 RIGHTS = ("SYS_ADMIN", "SETFCAP", "MKNOD")
 # what packages keep of themselves, beside the lists of packages
 OF_PACKAGES = ("/var/lib/ucf", "/var/lib/pam")
+ROOTS = "roots"             # the folder of roots that are kept, beside `machine`
+HOME_THERE = "home/runner"
+OF_LEG = ("tmp", "home", "person")  # with the layers, what is kept of a root
 MOST_WHY = 4096             # bytes of the reason why there is no root
 LEAST_BYTES = 64 * 1024     # that are free on a disk which is not full
 MOST_BYTES = 2 * 1024 ** 3  # of the packages that are kept for a repository
@@ -58,7 +61,10 @@ class Machine:
     python: str
     apt: Path     # packages that earlier executions downloaded
     engine: Engine | None = None
+    ended: Ended | None = None  # the legs that have ended, where containers may be needed
     places: dict[int, Any] = field(default_factory=dict)  # of legs with a container, what their sandbox shows
+    made: dict[int, Path] = field(default_factory=dict)   # the folders of legs
+    earlier: dict[int, Path] = field(default_factory=dict)  # roots that legs go on with
 
     @property
     def folder(self) -> Path:
@@ -80,20 +86,28 @@ class Machine:
                 shutil.copyfile(package, packages / package.name)
         write_sudo(self.room.play / "bin", Path(LEG_THERE, "none"), offline)
 
+    def watch(self, legs: Sequence[Leg], part: Path) -> None:
+        """Opens the record as it grows, if a leg has a container or services."""
+        if any(VARIABLE in leg.job["env"] for leg in legs):
+            self.ended = Ended(part)
+
     def fresh(self, leg: int) -> Path:
         """A new folder for a leg. (An execution in several stages may have legs of the same number.)"""
         for count in range(1000):
             folder = self.folder / (f"{leg}-{count}" if count else str(leg))
             try:
                 folder.mkdir(mode=0o755)
-                return folder
             except FileExistsError:
                 continue
+            self.made[leg] = folder
+            return folder
         raise FileExistsError(errno.EEXIST, os.strerror(errno.EEXIST), os.fspath(self.folder))
 
     def words(self, words: list[str], leg: int) -> list[str]:
-        """The words of a leg's sandbox, made longer by what its root is made of."""
-        folder = self.places[leg].folder if leg in self.places else self.fresh(leg)
+        """The words of a leg's sandbox, and those of its root."""
+        folder = self.fresh(leg)  # (that of its containers is another, which no step sees whole)
+        if leg in self.earlier:
+            go_on_with(self.earlier.pop(leg), folder)
         more = [word for name in (RIGHTS if os.geteuid() == 0 else ())
                 for word in ("--cap-add", f"CAP_{name}")]
         more += [*sandbox.shown("--ro-bind-try", OF_PACKAGES), "--dev-bind-try", "/dev/fuse", "/dev/fuse"]
@@ -118,16 +132,20 @@ class Machine:
         if isinstance(engine, str):
             yield
             return
-        self.engine, engine.execution = engine, self.room.folder.name
+        # (folders of --keep may have the same name)
+        self.engine, engine.execution = engine, f"{self.room.folder.name[-40:]}-{secrets.token_hex(3)}"
         engine.sweep()
+        assert self.ended is not None
+        shared = Shared(self.ended)
         broker.relays = relays_of(legs, engine, self.room, self.fresh, len(legs) > 1 and top is None, top,
                                   lambda leg: {
             "offline": bool(options.offline), "agent": lambda: broker.leg(leg).agent, "base": base,
-            "mark": mark})
+            "shared": shared, "mark": mark})
         self.places = {leg: relay.place for leg, relay in broker.relays.items()}
         try:
             yield
         finally:
+            self.ended.file.close()
             engine.remove(EXECUTION, engine.execution)
 
     def why_none(self, leg: str) -> str:
@@ -137,8 +155,9 @@ class Machine:
         except OSError:
             return ""
 
-    def finish(self, screen: Screen) -> None:
-        """Keeps the packages that steps downloaded; says why there were no roots, if that is so."""
+    def finish(self, screen: Screen, kept: Iterable[int] = ()) -> None:
+        """Keeps the packages that steps downloaded, and the roots of some legs; says why there were no roots,
+        if that is so."""
         why = next(filter(None, map(self.why_none, sorted(os.listdir(self.folder)))),
                    "") if self.folder.is_dir() else ""
         if why:
@@ -158,7 +177,16 @@ class Machine:
             screen.tell(f"note: {rooms.cache_root()}: {os.strerror(errno.ENOSPC)}: make room there, or name "
                         "another place by the variable "
                         "XDG_CACHE_HOME", "warning")
+        self.keep(kept)
         self.remove()
+
+    def keep(self, legs: Iterable[int]) -> None:
+        """Keeps the roots of legs for an execution that goes on with them."""
+        kept = self.room.folder / ROOTS
+        for leg in {*legs} & {*self.made} - {*self.places}:
+            if (self.made[leg] / HOME_THERE).is_dir() and not (self.made[leg] / "none").exists():
+                kept.mkdir(mode=0o700, exist_ok=True)
+                self.made[leg].rename(kept / str(leg))
 
     def remove(self) -> None:
         """Removes the roots, while the result is shown."""
@@ -173,10 +201,27 @@ class Machine:
         removals[-1].start()
 
     def remove_folder(self, folder: Path) -> None:
-        """Removes a folder, also what other persons of a container own, whom an ordinary user's podman knows alone."""
+        """Removes a folder, also what other persons of a container own, whom an ordinary user's podman knows
+        alone."""
         rooms.remove(folder)
         if folder.exists() and self.engine and self.engine.name == "podman" and os.geteuid():
             self.engine.ask("unshare", "rm", "-rf", "--", str(folder))
+
+
+def kept_root(folder: Path, leg: int) -> Path | None:
+    """The root that a leg of an execution left; also that of one which was ended by force."""
+    places = (folder / ROOTS / str(leg), folder / "machine" / str(leg))
+    return next(
+        (place for place in places if (place / HOME_THERE).is_dir() and not (place / "none").exists()), None
+    )
+
+
+def go_on_with(old: Path, folder: Path) -> None:
+    """Moves what a leg left of its root into the folder of another: layers, home folder and temporary
+    files."""
+    for name in os.listdir(old):
+        if name.startswith("up") or name in OF_LEG:
+            os.rename(old / name, folder / name)
 
 
 removals: list[threading.Thread] = []  # that may be at work

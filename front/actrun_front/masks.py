@@ -2,12 +2,13 @@
 from __future__ import annotations
 
 import base64
+import bisect
 import functools
 import html
 import json
 import re
 import urllib.parse
-from typing import Any, Dict, Iterable, Iterator
+from typing import Any, Dict, Iterable, Iterator, TypeVar, cast
 from xml.sax.saxutils import escape
 
 BEGINNING = 4  # characters by which masks are found
@@ -16,7 +17,11 @@ MANY = 4096  # beginnings that one pattern finds
 MOST = 200_000  # forms; of further secrets only the text itself is hidden
 LEAST = 8  # characters of a part of base64 that is masked as a secret
 URI_KEEPS = ("-_.~", "-_.~!'()*")  # of .NET and Python, of JavaScript
+# a veil is what the program has in place of a secret in values (veils.py)
+BEGIN, END, DIGITS = "\ue000", "\ue001", [chr(0xE010 + digit) for digit in range(16)]
+VEIL = re.compile(f"{BEGIN}[{DIGITS[0]}-{DIGITS[-1]}]{{32}}{END}")
 Tree = Dict[str, Any]
+T = TypeVar("T")
 
 
 def texts(value: Any) -> Iterator[str]:
@@ -104,6 +109,8 @@ class Masks:
         self.lengths: dict[int, dict[str, set[int]]] = {}  # of the forms with a beginning, which is so long
         self.made: re.Pattern[str] | None = None
         self.exact = True  # it finds beginnings, else signs alone
+        self.ordered: list[str] | None = None  # the forms, in their order, once these are asked for
+        self.most = 0  # characters of the longest of these
         self.rounds = 0
         self.add(found)
 
@@ -124,10 +131,11 @@ class Masks:
             self.beginnings.add(start)
             self.signs.add(start[0])
         self.forms |= found
+        self.ordered = None
 
     @property
     def pattern(self) -> re.Pattern[str] | None:
-        """What finds where a form may begin; None where nothing is hidden."""
+        """What finds where a form may begin; None if nothing is hidden."""
         if self.made is None and self.beginnings:
             self.rounds += len(self.beginnings) > FEW
             self.exact = len(self.beginnings) <= FEW or len(self.beginnings) <= MANY and self.rounds <= FEW
@@ -135,16 +143,20 @@ class Masks:
             self.made = re.compile(pattern_of(tree_of(self.beginnings)) if self.exact else signs)
         return self.made
 
-    def hide(self, value: Any) -> Any:
+    def hide(self, value: T) -> T:
         """The value with `***` for the longest form at each place of its texts, from the left."""
+        hidden: Any = value
         if isinstance(value, dict):
-            return {self.hide(key): self.hide(inner) for key, inner in value.items()}
-        if isinstance(value, list):
-            return [self.hide(inner) for inner in value]
-        return self.hidden(value) if self.beginnings and isinstance(value, str) else value
+            hidden = {self.hide(key): self.hide(inner) for key, inner in value.items()}
+        elif isinstance(value, list):
+            hidden = [self.hide(inner) for inner in value]
+        elif self.beginnings and isinstance(value, str):
+            hidden = self.hidden(value)
+        return cast(T, hidden)
 
     def hidden(self, text: str) -> str:
         """The text with `***` for the longest form at each place, from the left."""
+        text = VEIL.sub("***", text) if BEGIN in text else text
         pattern = self.made or self.pattern
         place = pattern.search(text) if pattern else None
         if place is None:
@@ -159,8 +171,42 @@ class Masks:
             place = pattern.search(text, at + max(length, 1))  # type: ignore[union-attr]
         return "".join([*shown, text[end:]])
 
+    def touches(self, text: str) -> bool:
+        """Whether a form may be in a text."""
+        pattern = self.made or self.pattern
+        return pattern is not None and pattern.search(text) is not None
+
+    def settled(self, text: str) -> tuple[str, int]:
+        """The hidden beginning of a text that goes on, and how long that is in the text: whatever follows,
+        nothing of the beginning is hidden otherwise."""
+        opens = self.first_open(text, 0)
+        shown, end = [], 0
+        place = self.pattern.search(text) if self.pattern else None
+        while place and place.start() < opens:
+            at = place.start()
+            length = self.longest(text, at)
+            if length:
+                shown += [text[end:at], "***"]
+                end = at + length
+                opens = opens if opens >= end else self.first_open(text, end)
+            place = self.pattern.search(text, at + max(length, 1))  # type: ignore[union-attr]
+        return "".join([*shown, text[end:opens]]), max(opens, end)
+
+    def first_open(self, text: str, begin: int) -> int:
+        """The first place from `begin` on where a form may begin that goes beyond the text; else its end."""
+        if self.ordered is None:
+            self.ordered = sorted(self.forms)
+            self.most = max(map(len, self.ordered), default=0)
+        for at in range(max(begin, len(text) - self.most), len(text)):
+            if text[at] in self.signs:
+                end = text[at:]
+                place = bisect.bisect_left(self.ordered, end)
+                if place < len(self.ordered) and self.ordered[place].startswith(end):
+                    return at
+        return len(text)
+
     def longest(self, text: str, at: int) -> int:
-        """How long the longest form at a place of a text is; 0 where none is there."""
+        """How long the longest form at a place of a text is; 0 if none is there."""
         sizes = self.lengths.items()
         found = (length for size, starts in sizes for length in starts.get(text[at:at + size], ()))
         return max((length for length in found if text[at:at + length] in self.forms), default=0)

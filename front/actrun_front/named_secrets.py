@@ -10,7 +10,7 @@ ALWAYS = "github_token"
 
 
 def named_secrets(run: dict[str, Any], secrets: dict[str, str]) -> dict[str, str]:
-    """The secrets that the texts of a run's plan name; all where a text reads the context as a whole."""
+    """The secrets that the texts of a run's plan name; all if a text reads the context as a whole."""
     names = {ALWAYS}
     for text in texts({key: value for key, value in run.items() if key != "roots"}):
         for is_expression, piece in split(text) if "secrets" in text.lower() else ():

@@ -49,12 +49,12 @@ LIBC = ctypes.CDLL(None, use_errno=True)
 
 
 def which(name: str) -> str:
-    """The place of a program of the system; nothing where there is none."""
+    """The place of a program of the system; nothing if there is none."""
     return next((f"{place}/{name}" for place in PLACES if os.access(f"{place}/{name}", os.X_OK)), "")
 
 
 def call(name: str, *words: str | int | None) -> None:
-    """Calls a function of the C library. Raises OSError where it fails."""
+    """Calls a function of the C library. Raises OSError if it fails."""
     given = [os.fsencode(word) if isinstance(word, str) else word for word in words]
     if getattr(LIBC, name)(*given) < 0:
         number = ctypes.get_errno()
@@ -158,6 +158,8 @@ class Root:
         program = which("fuse-overlayfs")
         if not program:
             raise OSError(errno.ENOENT, "fuse-overlayfs is not installed (apt-get install fuse-overlayfs)")
+        if os.path.exists("/dev/fuse") and not os.access("/dev/fuse", os.R_OK | os.W_OK):
+            raise OSError(errno.EACCES, "you cannot open /dev/fuse (sudo chmod 666 /dev/fuse)")
         upper, work = self.folders("")
         self.put_readable(f"{self.leg}/{upper}")
         words = [program, "-o", f"lowerdir=/,upperdir={upper},workdir={work},squash_to_root", "root"]
@@ -215,7 +217,7 @@ class Root:
             self.done.append(point)
 
     def put_packages(self) -> None:
-        """Shows packages that were downloaded before to apt, which puts others beside them into a layer."""
+        """Shows apt the packages that were downloaded earlier; new ones go into a layer above them."""
         upper, work = self.folders(PACKAGES)
         options = f"lowerdir={APT},upperdir={upper},workdir={work}"
         try:
@@ -396,7 +398,7 @@ def go_on(program: list[str]) -> None:
 
 
 def main(layered: str, sudo: str, *program: str) -> None:
-    """Executes the program in the root of the leg; where that cannot be made, as it is. This process waits
+    """Executes the program in the root of the leg, or without one if it cannot be made. This process waits
     for it."""
     ready, tell = os.pipe()  # (closed as soon as the program starts)
     number = os.fork()

@@ -47,10 +47,13 @@ SECRET = ("shadow", "shadow-", "gshadow", "gshadow-", "sudoers", "sudoers.d", "s
 FOLDERS = ("/home", "/opt", "/srv", "/mnt", "/media", "/sys", "/sys/fs", "/tmp", "/var", "/var/lib",
            "/var/cache", "/var/log", "/var/tmp")
 # what the front wrote below `play` for steps to read
-OF_FRONT = ("bin", "stubs", "files/prelude.sh")
+OF_FRONT = ("bin", "stubs")
+# the folders below `play` in which each leg has one of its own
+OF_LEGS = ("files", "legs", "temp")
+OF_NO_LEG = ("path", "summary")  # files that programs without the prelude write
 REMEDY = ("install bubblewrap (apt-get install bubblewrap), or allow user namespaces (sysctl "
-          "kernel.unprivileged_userns_clone=1; kernel.apparmor_restrict_unprivileged_userns=0); `--no-sandbox` "
-          "does without, which gives every step your rights")
+          "kernel.unprivileged_userns_clone=1; kernel.apparmor_restrict_unprivileged_userns=0); without a "
+          "sandbox every step would have your rights, and could change this machine: only `--no-sandbox` executes so")
 CLEAN = {"PATH": "/usr/bin:/bin", "LC_ALL": "C"}
 
 
@@ -61,7 +64,7 @@ def no_sandbox(cause: str) -> Problem:
 
 
 def bwrap() -> str:
-    """The program that makes sandboxes: the system's alone. Raises Problem where there is none."""
+    """The program that makes sandboxes: the system's alone. Raises Problem if there is none."""
     found = next((place for place in PLACES if os.access(place, os.X_OK)), None)
     if found is None:
         looked = ", ".join(map(os.path.dirname, PLACES[:3]))
@@ -135,10 +138,11 @@ def hidden_folders(room: Room, top: Path) -> list[Path]:
 
 
 def sandbox_words(room: Room, readable: Sequence[Path], writable: Sequence[Path], offline: bool,
-                  top: Path | None = None) -> list[str]:
+                  top: Path | None = None, own: Sequence[Path] = ()) -> list[str]:
     """The words before the command that executes inside. Of the machine it has the system, of the folder
-    of the execution the folders below `play`, and what is named readable or writable. `top` is the working
-    tree."""
+    of the execution the folders below `play` that legs share and its own, and what is named readable or
+    writable. `top` is the working tree. If a leg has a copy of the tree, nobody changes the one it is made
+    from."""
     result = [bwrap(), *(word for place in FOLDERS for word in ("--dir", place)), *system_words(),
               *process_words()]
     result += ["--unshare-net"] if offline else []
@@ -156,15 +160,19 @@ def sandbox_words(room: Room, readable: Sequence[Path], writable: Sequence[Path]
             result += ["--ro-bind", os.path.realpath(link), os.fspath(link)]
     result += ["--tmpfs", os.fspath(room.play)]
     result += shown("--bind", sorted(Path(entry.path) for entry in os.scandir(room.play)
-                                     if entry.is_dir(follow_symlinks=False)))
-    result += shown("--ro-bind", filter(os.path.lexists, (room.play / name for name in OF_FRONT)))
+                                     if entry.is_dir(follow_symlinks=False) and entry.name not in OF_LEGS))
+    result += shown("--bind", own)
+    for name in sorted(entry.name for entry in os.scandir(room.play / "files") if entry.is_file()):
+        result += shown("--bind" if name in OF_NO_LEG else "--ro-bind", [room.play / "files" / name])
+    of_front = (*OF_FRONT, *["tree"] * os.path.isdir(room.play / "legs"))
+    result += shown("--ro-bind", filter(os.path.lexists, (room.play / name for name in of_front)))
     return [*result, "--remount-ro", "/", "--chdir", os.fspath(room.play), "--"]
 
 
 @functools.lru_cache(maxsize=None)
 def private_mounts() -> tuple[str, ...]:
     """The words by which `bwrap` is started, so that what is mounted on the machine later is not seen in
-    the sandbox; none where that is not possible."""
+    the sandbox; none if that is not possible."""
     found = next((place for place in ("/usr/bin/unshare", "/bin/unshare") if os.access(place, os.X_OK)), None)
     if found is None:
         return ()
@@ -195,16 +203,8 @@ def python_places(python: str) -> list[Path]:
     return [] if is_of_system else [Path(sys.base_prefix), Path(python)]
 
 
-def hidden_programs(path: str) -> list[str]:
-    """The folders right below a home folder that have folders of PATH, and that the sandbox hides."""
-    homes = {Path("/home"), Path("/root"), Path("/opt"), Path.home(), Path.home().resolve()} - {Path("/")}
-    lines = [(Path(folder), *Path(folder).parents) for folder in path.split(":") if os.path.isdir(folder)]
-    belows = (next((below for below, home in zip(line, line[1:]) if home in homes), None) for line in lines)
-    return list(dict.fromkeys(str(below) for below in belows if below))
-
-
 def why_no_sandbox(sandbox: Sequence[str]) -> str | None:
-    """Why the sandbox of these words cannot be used; None where it works."""
+    """Why the sandbox of these words cannot be used; None if it works."""
     process = start(sandbox, ["/bin/sh", "-c", ":"], stdin=subprocess.DEVNULL, stdout=subprocess.DEVNULL,
                     stderr=subprocess.PIPE)
     answer = process.communicate()[1].decode("utf-8", "replace").strip().splitlines()

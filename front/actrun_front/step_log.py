@@ -1,8 +1,9 @@
 """Keeps what a step prints below a limit: the rest is thrown away while the step goes on.
 
-With a sandbox the shim does that (shim.py), by the limit from here. Without one the files of a step are watched: it
-prints into two files without names that the program keeps open. Each write is at the end of its file, so that a file
-that was cut grows on from there. A step below the limit costs nothing, and nothing can hang.
+With a sandbox the shim does that (shim.py), by the limit from here. Without one the files of a step are
+watched: it prints into two files without names that the program keeps open. Each write is at the end of its
+file, so that a file that was cut grows on from there. A step below the limit costs nothing, and nothing can
+hang.
 """
 from __future__ import annotations
 
@@ -13,15 +14,14 @@ import stat
 import threading
 from dataclasses import dataclass, field
 from pathlib import Path
-from typing import Any, Callable, Iterator
+from typing import Callable, Iterator
 
-from .dap_logs import plan_masks, read_log, text_of_log
 from .execute import program, session
 
 USUAL = 1 << 30
 FILE = re.compile(r"/step-(\d+)-(\d+)\.std(out|err) \(deleted\)\Z")
 UNITS = {"": 1, "K": 1 << 10, "M": 1 << 20, "G": 1 << 30}
-SHOWN = 1 << 20  # bytes of a stream whose log is lost
+MOST_HELD = 64   # steps whose files are open at once
 SELDOM, OFTEN = 0.2, 0.02  # seconds between two looks
 
 
@@ -49,19 +49,9 @@ def for_shim(most: int) -> str:
     return f"{most} {note_of(most)}"
 
 
-def shown(plan: dict[str, Any], limits: Limits, leg: int, step: int) -> str:
-    """What is shown of a step whose log is lost; nothing where masks of earlier steps are not known."""
-    masks = plan_masks(plan)
-    for number in range(step):
-        log = limits.folder / f"step-{leg}-{number}.log"
-        if (leg, number) in limits.kept or log.exists() and not read_log(log, masks)[1]:
-            return ""
-    text, known = text_of_log(limits.kept.get((leg, step), b""), masks)
-    return re.sub(rf"\A\S+:{leg}-{step}\n", "", text) if known else ""
-
-
 def program_of(leader: int | None) -> int | None:
-    """The process that executes the plan: the first of this program in a session, since a step may start it, too."""
+    """The process that executes the plan: the first of this program in a session, since a step may start it,
+    too."""
     found = []
     for number in session(leader) if leader else ():
         with contextlib.suppress(OSError):
@@ -77,6 +67,7 @@ class Cut:
 
     files: dict[str, int]
     ends: dict[str, int]
+    noted: str
 
 
 @dataclass
@@ -90,9 +81,8 @@ class Limits:
     cuts: dict[tuple[int, int], Cut] = field(default_factory=dict)
     over: threading.Event = field(default_factory=threading.Event)
     lock: threading.Lock = field(default_factory=threading.Lock)
-    # the files of running steps, which are read where a log is lost, and what they had then
+    # the files of steps whose output is still shown
     held: dict[tuple[int, int], dict[str, int]] = field(default_factory=dict)
-    kept: dict[tuple[int, int], bytes] = field(default_factory=dict)
 
     def __post_init__(self) -> None:
         self.note = f"\n{note_of(self.most)}".encode("utf-8")
@@ -111,6 +101,7 @@ class Limits:
                 thread.join()
             for leg, step in {*self.cuts, *self.held}:
                 self.ended(leg, step)
+                self.release(leg, step)
 
     def look_on(self) -> None:
         """Looks again and again."""
@@ -132,17 +123,36 @@ class Limits:
         return found
 
     def begun(self, leg: int, step: int) -> None:
-        """Holds the files of a step that begins."""
+        """Holds the files of a step that begins. Of one that has ended meanwhile the log has all."""
         with contextlib.suppress(OSError), self.lock:
-            files = self.files().get((leg, step), {})
-            self.held[leg, step] = {kind: os.open(path, os.O_RDONLY) for kind, path in files.items()}
+            held = self.held.setdefault((leg, step), {})
+            wanted = self.files().get((leg, step), {}) if len(self.held) < MOST_HELD else {}
+            for kind, path in wanted.items():
+                file = os.open(path, os.O_RDONLY | os.O_CLOEXEC)
+                if is_of(file, leg, step):
+                    held[kind] = file
 
-    def keep(self, leg: int, step: int) -> None:
-        """Keeps the beginning of what a step printed whose log is lost, without a last line that is cut."""
-        with contextlib.suppress(OSError):
-            files = self.held.get((leg, step), {})
-            parts = [os.pread(files[kind], SHOWN, 0) for kind in ("out", "err") if kind in files]
-            self.kept[leg, step] = b"".join(part[:part.rfind(b"\n") + 1] for part in parts)
+    def read(self, leg: int, step: int, kind: str, at: int, most: int) -> bytes:
+        """What a held file of a step has from a place on, up to where it is cut."""
+        with contextlib.suppress(OSError), self.lock:
+            file = self.held.get((leg, step), {}).get(kind)
+            cut = self.cuts.get((leg, step))
+            end = cut.ends.get(kind, at) if cut else at + most
+            return os.pread(file, min(most, end - at), at) if file is not None and end > at else b""
+        return b""
+
+    def note_at(self, leg: int, step: int, kind: str) -> int | None:
+        """Where the note of a step is in a file; None if it is not there."""
+        with self.lock:
+            cut = self.cuts.get((leg, step))
+            return cut.ends[kind] - len(self.note) if cut and cut.noted == kind else None
+
+    def release(self, leg: int, step: int) -> None:
+        """Holds the files of a step no longer."""
+        with self.lock:
+            cut = self.cuts.pop((leg, step), None)
+            for file in (*self.held.pop((leg, step), {}).values(), *(cut.files.values() if cut else ())):
+                os.close(file)
 
     def look(self) -> float:
         """Cuts the files that are too large; gives the seconds until the next look."""
@@ -177,12 +187,12 @@ class Limits:
         ends[larger] = end_of_line(opened[larger], ends[larger])
         os.pwrite(opened[larger], self.note, ends[larger])
         ends[larger] += len(self.note)
-        self.cuts[step] = Cut(opened, ends)
+        self.cuts[step] = Cut(opened, ends, larger)
 
     def ended(self, leg: int, step: int) -> None:
         """Cuts the log of a step that has ended, which may have what was printed after the last look."""
         with self.lock:
-            cut, held = self.cuts.pop((leg, step), None), self.held.pop((leg, step), {})
+            cut = self.cuts.get((leg, step))
         with contextlib.suppress(OSError):
             log = os.open(self.folder / f"step-{leg}-{step}.log", os.O_RDWR | os.O_NOFOLLOW | os.O_NONBLOCK)
             try:
@@ -191,17 +201,25 @@ class Limits:
                     self.cut_log(log, found.st_size, cut)
             finally:
                 os.close(log)
-        for file in (*held.values(), *(cut.files.values() if cut else ())):
-            os.close(file)
 
     def cut_log(self, log: int, length: int, cut: Cut | None) -> None:
-        """Cuts a log as its files were; where they were not, since all came between two looks, at the limit."""
+        """Cuts a log as its files were; where they were not, since all came between two looks, at the
+        limit."""
         if cut:
             rewrite(log, cut)
         elif length > self.most + len(self.note):
             end = end_of_line(log, self.most)
             os.pwrite(log, self.note, end)
             os.ftruncate(log, end + len(self.note))
+
+
+def is_of(file: int, leg: int, step: int) -> bool:
+    """Whether an open file is one into which a step prints; another is closed."""
+    found = FILE.search(os.readlink(f"/proc/self/fd/{file}"))
+    is_it = found is not None and (int(found[1]), int(found[2])) == (leg, step)
+    if not is_it:
+        os.close(file)
+    return is_it
 
 
 def end_of_line(file: int, end: int) -> int:

@@ -7,11 +7,13 @@ from pathlib import Path
 
 # what `sudo` passes on without -E: the language, the terminal, and ways through a proxy, which this machine
 # may need
-PASSED = ("LANG LANGUAGE LC_ALL LC_CTYPE LC_COLLATE LC_MESSAGES LC_NUMERIC LC_TIME TERM TZ COLORTERM DISPLAY "
-          "http_proxy https_proxy ftp_proxy no_proxy all_proxy HTTP_PROXY HTTPS_PROXY FTP_PROXY NO_PROXY ALL_PROXY "
-          "SSL_CERT_FILE SSL_CERT_DIR DEBIAN_FRONTEND")
+PASSED = (
+    "LANG LANGUAGE LC_ALL LC_CTYPE LC_COLLATE LC_MESSAGES LC_NUMERIC LC_TIME TERM TZ COLORTERM DISPLAY "
+    "http_proxy https_proxy ftp_proxy no_proxy all_proxy HTTP_PROXY HTTPS_PROXY FTP_PROXY NO_PROXY ALL_PROXY "
+    "SSL_CERT_FILE SSL_CERT_DIR DEBIAN_FRONTEND"
+)
 SECURE_PATH = "/usr/local/sbin:/usr/local/bin:/usr/sbin:/usr/bin:/sbin:/bin:/snap/bin"
-OFFLINE = "--offline took the network away: leave it out of the words of `actrun try`"
+OFFLINE = "--offline took the network away: leave that option out"
 SCRIPT = r"""#!/bin/sh
 # In place of sudo: root in the root of a leg (/run/actrun/root has the words that lead there), else it says
 # what is missing.
@@ -27,7 +29,8 @@ read_only() {
   why=
   [ ! -r NONE ] || read -r why <NONE || :
   why="the system is read-only here${why:+, since $why}"
-  hint "$why: \`actrun try --no-sandbox\` lets steps change this machine"
+  hint "$why: install what the step needs on this machine, or execute the job in a \`container\`;" \
+    "with --no-sandbox every step would have your rights, and change this machine for good"
 }
 user=root keep= names= login= folder= ask= pairs=
 while [ $# -gt 0 ]; do

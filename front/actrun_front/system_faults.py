@@ -11,7 +11,7 @@ from dataclasses import dataclass, field
 from pathlib import Path
 from typing import Callable, Iterable
 
-from .execute import read_progress
+from .progress import Progress
 from .tree import cache_root
 
 LEAST = 16384  # bytes: a file system with less is full
@@ -21,10 +21,11 @@ REMEDIES = {errno.ENOSPC: "make room there, or name another place by the variabl
             errno.EMFILE: "`ulimit -n 1024` lets a shell open more", errno.ENFILE: "end other programs",
             errno.EAGAIN: "end other programs, or raise `ulimit -u`"}
 # how the program words what is not the workflow's doing, but has several reasons
-NO_LOG = "what it printed cannot be kept"
 NO_FILE = "a file for it cannot be written"
-UNCLEAR = re.compile("no storage space|uncategorized error|operation would block|resource temporarily unavailable|"
-                     f"out of memory|{NO_FILE}")
+UNCLEAR = re.compile(
+    "no storage space|uncategorized error|operation would block|resource temporarily unavailable|"
+    f"out of memory|{NO_FILE}"
+)
 
 
 def sentence(error: OSError) -> str:
@@ -56,7 +57,8 @@ def is_full(place: Path) -> bool:
 
 
 def lacks(processes: Iterable[int]) -> int:
-    """The error by which the system refuses programs and files, here or in one of these processes; 0 without one."""
+    """The error by which the system refuses programs and files, here or in one of these processes; 0 without
+    one."""
     try:
         subprocess.run(["/bin/true"], check=False, stdin=subprocess.DEVNULL)
     except OSError as error:
@@ -84,9 +86,8 @@ class Faults:
     steps: dict[tuple[int, int], str] = field(default_factory=dict)
     refused: dict[int, str] = field(default_factory=dict)
 
-    def hear(self, line: str) -> None:
-        """Takes a line of --progress."""
-        found = read_progress(line)
+    def hear(self, found: Progress) -> None:
+        """Takes what a line of --progress says of a step."""
         if not found:
             return
         leg, step, state, reason, _ = found
@@ -106,7 +107,7 @@ class Faults:
             self.tell(f"ended by the system: {why}")
 
     def cause(self, reason: str) -> str:
-        """What the system lacks; nothing where the step itself failed."""
+        """What the system lacks; nothing if the step itself failed."""
         full = next(filter(is_full, self.places), None)
         if full is not None or "no storage space" in reason:
             return f"{full or self.places[0]}: {FULL}: {REMEDIES[errno.ENOSPC]}"

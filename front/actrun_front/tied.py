@@ -4,8 +4,10 @@ from __future__ import annotations
 import os
 from pathlib import Path
 
-# The leader of a session starts the command. Beside it a process waits for the end of a pipe, whose other end this
-# process alone has open: the pipe ends when this process dies, also by SIGKILL. Then the session is killed, and the
+# The leader of a session starts the command. Another process waits for the end of a pipe, whose other end
+# this
+# process alone has open: the pipe ends when this process dies, also by SIGKILL. Then the session is killed,
+# and the
 # file whose rights were taken meanwhile is its owner's again.
 LEADER = r"""
 plan=$1 part=$2
@@ -58,5 +60,6 @@ exit "$status"
 
 
 def tied(words: list[str], plan: Path, part: Path) -> list[str]:
-    """The words that execute a command with a plan as its input, and end it when their own standard input ends."""
+    """The words that execute a command with a plan as its input, and end it when their own standard input
+    ends."""
     return ["/bin/sh", "-c", LEADER, "actrun-leader", os.fspath(plan), os.fspath(part), *words]

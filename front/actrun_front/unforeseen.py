@@ -1,4 +1,5 @@
-"""The one place that turns an unforeseen error into a line: what it is, where it is kept, where to report it."""
+"""The one place that turns the error of a command into a line; of an unforeseen one also where it is kept,
+and where to report it."""
 from __future__ import annotations
 
 import contextlib
@@ -10,8 +11,10 @@ import time
 import traceback
 from typing import Callable
 
+from . import Problem
 from .stopping import ended_by
 from .tree import cache_root
+from .visible import visible
 
 MOST_KEPT = 20
 REPORT = "please report it, with this file, to whom you have actrun from"
@@ -21,7 +24,7 @@ MEMORY = "out of memory: give it more, or take a smaller file"
 
 
 def kept(error: BaseException, what: str) -> str:
-    """Where the traceback of an error was kept, for its owner alone; why it was not, where that fails."""
+    """The file with the traceback of an error, which only its owner reads; or why it could not be written."""
     try:
         folder = cache_root() / "faults"
         folder.mkdir(mode=0o700, parents=True, exist_ok=True)
@@ -47,7 +50,7 @@ def sentence(error: BaseException, command: str) -> str:
 def show(text: str) -> None:
     """A line on standard error, if that can be written."""
     with contextlib.suppress(OSError, ValueError, AttributeError):
-        sys.stderr.write(f"actrun: {text}\n".encode("utf-8", "backslashreplace").decode("utf-8"))
+        sys.stderr.write(visible(f"actrun: {text}\n").encode("utf-8", "backslashreplace").decode("utf-8"))
         sys.stderr.flush()
 
 
@@ -66,6 +69,8 @@ def guarded(command: str, work: Callable[[], int]) -> int:
     except SystemExit as end:
         told = end.code if isinstance(end.code, str) else ""
         status = end.code if isinstance(end.code, int) else 1 if end.code else 0
+    except Problem as problem:
+        told, status = f"{command}: {str(problem).removeprefix('actrun: ')}", problem.status
     except KeyboardInterrupt as interrupt:
         told, status = ended_by(interrupt)
     except BrokenPipeError:
@@ -75,14 +80,17 @@ def guarded(command: str, work: Callable[[], int]) -> int:
     except OSError as error:
         told = of_system(error, command)
     except Exception as error:  # (this is the one place that takes all)
-        told = f"{command}: {THREADS if str(error) == NO_THREAD else sentence(error, command)}"
+        if isinstance(error.__cause__, KeyboardInterrupt):  # (which Python wraps where a class is being made)
+            told, status = ended_by(error.__cause__)
+        else:
+            told = f"{command}: {THREADS if str(error) == NO_THREAD else sentence(error, command)}"
     if told:
         show(told)
     return flushed(status, not told)
 
 
 def flushed(status: int, tells: bool) -> int:
-    """The status once all is written; that of the system's faults where it cannot be, which is printed then."""
+    """The status once all is written; if the system prevents that, prints its error and gives its status."""
     for stream, name in ((sys.stdout, "standard output"), (sys.stderr, "")):
         try:
             if stream is not None and not stream.closed:

@@ -1,6 +1,7 @@
-"""Jobs in containers and with services, by podman where it works. Images are made of packages of this machine, without a registry."""
+"""Jobs in containers and with services, by podman where it works. Images are built from packages of this machine, without a registry."""
 from __future__ import annotations
 
+import io
 import json
 import os
 import re
@@ -14,8 +15,10 @@ import unittest
 from pathlib import Path
 from typing import ClassVar
 
-from actrun_front import containers, lower, lower_containers, relay
+from actrun_front import containers, lower, lower_containers, machine, relay
 from actrun_front.containers import Engine, EngineError
+from actrun_front.root import LEG
+from actrun_front.tree import Room
 from actrun_front.yaml_reader import Refused, read_document
 
 from .action_case import Remote
@@ -116,6 +119,20 @@ class InContainers(TryCase):
         self.assertEqual(done.returncode, 0, shown)
         self.assertRegex(shown, r"(?s)print PWD\n/__w/project/project\n.*the step failed, exit 1\n"
                                 r".*podman exec --interactive --tty \w+ sh\n")
+
+    def test_a_container_goes_on_from_a_step(self) -> None:
+        steps = "- run: 'true'\n- run: echo one >made; mkdir empty; echo A=1 >>$GITHUB_ENV; ln -s /etc/passwd link\n"
+        last = "- run: cat made; ls -d empty; test -L link; echo A=$A; cat wanted"
+        for own in (False, True):
+            more = "  other: {runs-on: x, steps: [{run: echo other}]}\n" if own else ""
+            head = f"on: push\njobs:\n{more}  one:\n    runs-on: ubuntu-latest\n    container: {IMAGE}\n    steps:\n"
+            self.workflow(steps + last, head)
+            self.assert_status(self.attempt(), 1)
+            self.workflow(steps + last.replace("cat wanted", "echo fixed"), head)
+            done = self.attempt("--from", "one/2")
+            self.assert_status(done, 0)
+            self.assertIn("one\nempty\nA=1\nfixed\n", self.printed(done))
+            self.assertEqual(self.left(), "")
 
     def job(self, head: str, steps: str) -> None:
         """A workflow with one job."""
@@ -253,6 +270,54 @@ class InContainers(TryCase):
             with self.assertRaises(EngineError, msg=image):
                 Engine("podman", "/bin/true").bring(image, False, {}, self.home)
 
+    def test_what_steps_replace_leads_the_engine_nowhere(self) -> None:
+        other = self.home / "other"
+        other.mkdir()
+        (other / "canary").write_text("canary-text", encoding="utf-8")
+        (other / "Dockerfile").write_text(f"FROM {IMAGE}\nCOPY . /stolen\n", encoding="utf-8")
+        show = "ls /seen /github/workspace /github/workspace/ /stolen; cat /*/canary /github/workspace/canary; echo x > /github/workspace/new"
+        self.write("other/action.yml", "name: x\nruns: {using: docker, image: Dockerfile, entrypoint: /bin/sh, args: [-c, '" + show + "']}\n")
+        link = f"cd ..; mv project real; ln -s {self.home} project"
+        self.write(".github/workflows/ci.yml", f"""\
+on: push
+jobs:
+  tree:
+    runs-on: ubuntu-latest
+    steps:
+      - run: {link.replace(str(self.home), str(other))}
+      - uses: docker://{IMAGE}
+        with: {{entrypoint: /bin/sh, args: '-c "{show}"'}}
+        continue-on-error: true
+  context:
+    runs-on: ubuntu-latest
+    steps:
+      - run: {link}
+      - uses: ./other
+        continue-on-error: true
+  volumes:
+    runs-on: ubuntu-latest
+    container: {{image: {IMAGE}, volumes: ["a:/seen"]}}
+    services:
+      first:
+        image: {IMAGE}
+        volumes: [".:/volumes"]
+        options: --entrypoint '["/bin/sh", "-c", "ln -s {other} /volumes/a; sleep 9"]'
+    steps:
+      - run: {show}
+        continue-on-error: true
+  pipe:
+    runs-on: ubuntu-latest
+    steps:
+      - run: rm "$GITHUB_PATH"; mkfifo "$GITHUB_PATH"
+      - uses: docker://{IMAGE}
+        with: {{entrypoint: /bin/true}}
+""")
+        done = self.attempt()
+        self.assert_status(done, 0)
+        self.assertNotIn("canary-text", done.stdout)
+        self.assertEqual(sorted(os.listdir(other)), ["Dockerfile", "canary"])
+        self.assertEqual(self.left(), "")
+
     def test_ctrl_c_ends_the_step_in_the_container(self) -> None:
         self.job(f"    container: {LARGER}\n",
                  "- run: |\n    trap 'echo trapped; exit 9' TERM\n    echo up > up\n    while :; do sleep 0.2; done")
@@ -321,6 +386,63 @@ echo "said=$1" >> "$GITHUB_OUTPUT"; echo "V=value" >> "$GITHUB_ENV"; echo made >
         self.assertNotIn("root:", done.stdout)
         self.assertEqual(self.left(), "")
 
+    def test_docker_actions_of_a_leg_that_was_stopped(self) -> None:
+        self.write("act/action.yml", f"name: x\ninputs: {{who: {{}}}}\nruns: {{using: docker, image: 'docker://{IMAGE}', "
+                                     "entrypoint: /bin/echo, args: [hello, '${{ inputs.who }}']}\n")
+        self.job("    timeout-minutes: 0.05\n", """
+- uses: actions/checkout@v4
+- run: sleep 1000
+- {uses: ./act, if: failure(), with: {who: nobody}}
+- {uses: ./act, if: always(), with: {who: all}}
+""")
+        done = self.attempt()
+        self.assert_status(done, 1)
+        self.assertIn("\nhello all\n", done.stdout)
+        self.assertNotIn("hello nobody", done.stdout)
+        self.assertEqual(self.left(), "")
+
+    def test_phases_of_docker_actions(self) -> None:
+        remote = Remote(self.room)
+        entry = "#!/bin/sh\necho \"$0 $1 $STATE_word\"; echo \"word=of $0\" >> $GITHUB_STATE\n"
+        action = {"action.yml": "runs: {using: docker, image: Dockerfile, args: [arg], pre-entrypoint: /pre.sh, "
+                                "entrypoint: /main.sh, post-entrypoint: /post.sh, post-if: success()}",
+                  "Dockerfile": f"FROM {IMAGE}\nCOPY *.sh /\nRUN chmod +x /*.sh\n",
+                  **dict.fromkeys(("pre.sh", "main.sh", "post.sh"), entry)}
+        remote.publish("octo/phases", action, "v1")
+        for name, text in action.items():
+            self.write(f"act/{name}", text)
+        self.job("", "- uses: actions/checkout@v4\n- uses: octo/phases@v1\n- uses: ./act\n- run: rm -r act; echo between")
+        done = self.attempt("--actions-url", remote.url)
+        self.assert_status(done, 0)
+        self.assertEqual(re.findall(r"(?m)^(/.*\.sh .*|between)", done.stdout), [
+            "/pre.sh arg ", "/main.sh arg of /pre.sh", "/main.sh arg ", "between", "/post.sh arg of /main.sh",
+            "/post.sh arg of /main.sh"])
+        self.assertEqual(self.left(), "")
+
+    def test_legs_with_the_same_port_of_this_machine(self) -> None:
+        port = lower_containers.free_ports(1)[0]
+        self.job(f"""\
+    strategy: {{matrix: {{word: [one, two]}}}}
+    services:
+      fixed:
+        image: {LARGER}
+        ports: ['{port}:6379', 6379]
+        options: --entrypoint redis-server
+""", """
+- run: |
+    echo "port ${{ job.services.fixed.ports['6379'] }}, ${{ job.services.fixed.id }}, ${{ job.services.fixed.network }}"
+    redis-cli -p """ + port + """ config set save "" >/dev/null; echo began; sleep 1; echo ended
+""")
+        self.git("init", "-q")
+        done = self.attempt("--workers", "2", "-v")
+        self.assert_status(done, 0)
+        self.assertIn(f"legs share the ports of this machine, so they execute one after the other where these name the same: {port}:6379",
+                      done.stderr)
+        found = re.findall(r"(?m)^port (\d+), (actrun-\w+-[01])\.fixed, (\S+)\nbegan\nended$", self.printed(done))
+        self.assertEqual(len(set(found)), 2, done.stdout)
+        self.assertTrue(all(id_ == network for _, id_, network in found))
+        self.assertEqual(self.left(), "")
+
     def test_docker_actions_of_another_repository(self) -> None:
         remote = Remote(self.room)
         remote.publish("octo/greets", {
@@ -350,7 +472,7 @@ runs: {using: docker, image: Dockerfile, args: ["${{ inputs.who }}"]}
         self.assert_status(done, 0)
         for text in ("\ngreets world by octo/greets v1\n", "\nthen world\n", "\ngreets inner by octo/greets v1\n",
                      "the action octo/greets/v1/out has no file ../sub/Dockerfile",
-                     "the action actions/octo/greets/v1/links cannot be read"):
+                     "the action octo/greets/v1/links cannot be read"):
             self.assertIn(text, done.stdout)
         self.assertEqual(self.left(), "")
         looked = self.attempt("-n", "-v", "--actions-url", remote.url)
@@ -371,7 +493,7 @@ runs: {using: docker, image: Dockerfile, args: ["${{ inputs.who }}"]}
 @NEEDS_PROGRAM
 @unittest.skipUnless(sandbox_works(), "bwrap is not installed or does not work here")
 class WithoutEngine(TryCase):
-    """Jobs with containers where there is no engine."""
+    """Jobs with containers if there is no engine."""
 
     def test_it_is_refused_unless_lenient(self) -> None:
         self.workflow("- run: echo executed",
@@ -406,9 +528,9 @@ class Parts(unittest.TestCase):
     def test_a_job_becomes_one_variable(self) -> None:
         job = self.lowered("    container: {image: 'debian:${{ matrix.v }}', ports: [80]}\n    services: {db: {image: postgres, ports: ['15432:5432']}}\n")
         text = job["env"][lower_containers.VARIABLE]
-        self.assertEqual(text.count("${{ toJSON("), 1)
+        self.assertEqual(text.count("${{ toJSON("), 2)
         value = json.loads(re.sub(r"\$\{\{.*?\}\}\)? \}\}|\$\{\{.*?\}\}", '"x"', text))
-        self.assertEqual(value, {"services": {"db": {"image": "postgres", "ports": ["15432:5432"]}},
+        self.assertEqual(value, {"name": "x", "services": {"db": {"image": "postgres", "ports": ["15432:5432"]}},
                                  "container": {"image": "x", "ports": ["80"]}})
         self.assertNotIn("container", job)
 
@@ -417,13 +539,20 @@ class Parts(unittest.TestCase):
         self.assertIn("15432", job["steps"][0]["run"])
         self.assertNotIn("job.services", job["steps"][0]["run"])
 
-    def test_ids_and_networks_are_empty_with_a_note(self) -> None:
-        notes: list[str] = []
+    def test_ports_that_are_not_written(self) -> None:
+        self.assertRegex(lower_containers.chosen(80, 1), r"^\d+:80$")
+        self.assertEqual(lower_containers.chosen("1:80", 3), "1:80")
+        text = lower_containers.chosen("80/udp", 3)
+        self.assertRegex(text, r"""^\$\{\{ fromJSON\('\[("\d+"(, )?){3}\]'\)\[strategy\.job-index\] \}\}:80/udp$""")
+        self.assertEqual(lower_containers.inner_and_outer(text)[0], "80")
+
+    def test_ids_and_networks_are_names(self) -> None:
         job = self.lowered("    container: debian\n    services: {db: {image: postgres}}\n    env:\n      A: ${{ job.container.network }}\n"
-                           "      B: ${{ job.services.db.id }}\n      C: ${{ job.status }}\n", notes)
-        self.assertEqual([job["env"][name] for name in "ABC"], ["", "", "${{ job.status }}"])
-        for name in ("job.container.network", "job.services.db.id"):
-            self.assertIn(f"{name} is empty here: containers are named when they start", notes)
+                           "      B: ${{ job.services.db.id }}\n      C: ${{ job.services.no.id }}\n")
+        name = r"\$\{\{ \(?format\('actrun-[0-9a-f]{12}-\{0\}%s', strategy\.job-index\)\)? \}\}"
+        for variable, end in (("A", ""), ("B", r"\.db")):
+            self.assertRegex(job["env"][variable], name % end)
+        self.assertEqual(job["env"]["C"], "${{ job.services.no.id }}")
 
     def test_wrong_descriptions_are_refused(self) -> None:
         for text in ("container: {env: {A: b}}", "container: [debian]",
@@ -463,6 +592,35 @@ class Parts(unittest.TestCase):
             for name in ("./other", "./nothing", "../tree", "./act/../../x"):
                 with self.assertRaises(EngineError, msg=name):
                     relay.copy_plain(tree, name, Path(folder, "no"))
+            with self.assertRaises(EngineError):
+                relay.copy_plain(tree, "./ssh", Path(folder, "no"), "other")
+
+    def test_the_parts_of_an_action(self) -> None:
+        relay.check_action({"image": "Dockerfile", "folder": "./a", "args": ["x"], "env": {"A": "b"}, "entrypoint": "/x"})
+        for wrong in ([], {}, {"image": ["a"]}, {"image": ""}, {"image": "a", "args": "b"}, {"image": "a", "args": [["b"]]},
+                      {"image": "a", "env": ["x"]}, {"image": "a", "env": {"A": ["b"]}}, {"image": "a", "entrypoint": {}}):
+            with self.assertRaises(EngineError, msg=wrong):
+                relay.check_action(wrong)
+
+    def test_a_build_asks_for_nothing_of_the_machine(self) -> None:
+        relay.check_build(b"FROM x\nRUN --mount=type=cache,target=/a run --network=host\nCMD --device x\n", "./act")
+        for text in (b"RUN --network=host x", b"from x\nrun --mount=type=tmpfs,target=/a --Security=insecure x",
+                     b"RUN --net\\\nwork=host x", b"ONBUILD RUN \\ \r\n --network=none x", b"# escape=`\nRUN --dev`\nice=x y",
+                     b"# a \\\nRUN --net\\\n# b\n\nwork=host x"):
+            with self.assertRaises(EngineError, msg=text):
+                relay.check_build(text, "./act")
+
+    def test_no_step_sees_the_folders_of_its_containers_but_by_their_mounts(self) -> None:
+        with tempfile.TemporaryDirectory() as folder:
+            room = Room(Path(folder), "tree", io.StringIO())
+            legs = machine.Machine(room, "/p", Path(folder, "packages"))
+            legs.folder.mkdir()
+            place = relay.Place(0, legs.fresh(0), room.play, room.tree, room.play / "temp")
+            legs.places[0] = place
+            words = legs.words(["bwrap", "--remount-ro", "/", "--"], 0)
+            self.assertEqual(words[-3:], ["--remount-ro", "/", "--"])
+            shown = Path(words[words.index(LEG) - 1])
+            self.assertNotIn(shown, (place.folder, *place.folder.parents))
 
     def test_the_entry_of_a_step(self) -> None:
         with tempfile.TemporaryDirectory() as folder:

@@ -18,7 +18,7 @@ from actrun_front import ending
 from actrun_front.ending import Ender, add_line, goes_on, see_stops
 from actrun_front.execute import heeded
 
-from .try_case import NEEDS_PROGRAM, TryCase
+from .try_case import NEEDS_PROGRAM, TryCase, unprefixed
 
 DEADLINE = 90.0
 
@@ -218,12 +218,20 @@ known:
         done = self.attempt()
         self.assert_status(done, 1)
         self.assertIn("always cancelled\n", done.stdout)
-        self.assertIn("\nis cancelled\n", done.stdout)
-        self.assertNotIn("\nnever\n", done.stdout)
+        self.assertIn("\nis cancelled\n", self.printed(done))
+        self.assertNotIn("\nnever\n", self.printed(done))
         self.assertIn("one: slow, the job timed out after 0.03 minutes", done.stderr)
         self.assertRegex(done.stdout, r"step 0 \(slow\) failed at line \d+: the program ended with \d+; the job timed out after 0\.03 minutes  \[")
         self.assertRegex(done.stdout, r"step 0 \(exec .* failed at line .*; the job timed out after 0\.02 minutes  \[")
         self.assertEqual(self.results(), {"known": "success", "one": "failure", "two": "failure"})
+        self.assertRegex(done.stdout, r"(?m)^\S+ \.github/workflows/ci\.yml: cancelled$")
+
+    def test_what_other_jobs_see_of_a_job_that_timed_out(self) -> None:
+        self.flow("one: {runs-on: ubuntu-latest, timeout-minutes: 0.01, steps: [{run: sleep 1000}]}\n"
+                  "two: {runs-on: ubuntu-latest, needs: one, if: always(), steps: [{run: echo}]}")
+        done = self.attempt()
+        self.assert_status(done, 1)
+        self.assertIn("\n  one: cancelled on GitHub, where jobs that need it see that; here they see a failure\n", done.stdout)
 
     def test_what_is_no_number_is_refused(self) -> None:
         self.flow("one: {runs-on: ubuntu-latest, timeout-minutes: soon, steps: []}")
@@ -259,7 +267,7 @@ one:
         self.assert_status(done, 1)
         self.assertEqual(self.results(), {"one": "failure", "one1": "cancelled", "one2": "cancelled"})
         self.assertEqual(done.stderr.count(", one (0) failed, and the job fails fast, "), 2, done.stderr)
-        self.assertEqual(sorted(re.findall(r"(?m)^cancelled \d", done.stdout)), ["cancelled 1", "cancelled 2"])
+        self.assertEqual(sorted(re.findall(r"(?m)^cancelled \d", self.printed(done))), ["cancelled 1", "cancelled 2"])
 
     def test_without_fail_fast(self) -> None:
         self.flow(self.FLOW.replace("FAST", "fail-fast: false").replace("TIME", "1"))
@@ -286,7 +294,7 @@ second:
 """)
         done = self.attempt("--workers", "3", "--no-sandbox")
         self.assert_status(done, 1)
-        self.assertIn("\nthe second\n", done.stdout)
+        self.assertIn("\nthe second\n", self.printed(done))
         self.assertEqual(self.results(), {"first": "cancelled", "between": "success", "second": "success"})
         self.assertIn(", a newer member of its group cancels it, ", done.stderr)
 
@@ -329,10 +337,10 @@ free: {if: always(), runs-on: ubuntu-latest, steps: [{run: 'until [ -e $HERE/aft
         status, out, err = self.interrupted("0.1", "begun")
         self.assertEqual(status, 130, out + err)
         for text in ("always", "is cancelled", "cleaned", "went on"):
-            self.assertIn(f"\n{text}\n", out)
-        self.assertNotIn("\nnever\n", out)
+            self.assertIn(f"\n{text}\n", unprefixed(out))
+        self.assertNotIn("\nnever\n", unprefixed(out))
         self.assertIn("one: long, stopped by Ctrl-C, ", err)
-        self.assertRegex(out, r"step 0 \(long\) failed at line \d+: the program ended with \d+; stopped by Ctrl-C  \[")
+        self.assertRegex(out, r"step 0 \(long\) was interrupted at line \d+; stopped by Ctrl-C  \[")
 
     def test_twice(self) -> None:
         status, out, err = self.interrupted("1000", "begun", "after")

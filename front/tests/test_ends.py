@@ -63,7 +63,7 @@ class Ending(TryCase):
         child = self.start(*words)
         room = self.work()
         part = room / "private" / "record.part"
-        self.assertEqual(part.stat().st_mode & 0o777, 0o200)
+        self.assertEqual(part.stat().st_mode & 0o777, 0o200 if "--no-sandbox" in words else 0o600)
         (os.killpg if words else os.kill)(child.pid, signal.SIGKILL)  # (the front's group, or the front alone)
         child.communicate(timeout=SECONDS)
         wait_until(lambda: not sleeping(), "the steps go on")
@@ -147,10 +147,10 @@ class Ending(TryCase):
         (self.home / "go-on").touch()
         out, err = long.communicate(timeout=SECONDS)
         self.assertEqual(long.returncode, 0, out + err)
-        named = [Path(name) for name in re.findall(r"(?m)^(?:record|timeline|graph|report|tree) +(/.+)$",
+        named = [Path(name) for name in re.findall(r"(?m)^(?:record|report|tree) +(/.+)$",
                                                    out)]
         self.assertEqual([name for name in named if not name.exists()], [])
-        self.assertGreaterEqual(len(named), 4)
+        self.assertEqual(len(named), 3)
         # (the newest five are kept: the four newer ones, and the last of the short ones)
         self.assertEqual(sorted(self.works.iterdir()), sorted([own, *(room.folder for room in newer),
                                                                keeping_last(short)]))

@@ -3,6 +3,7 @@ must stay untouched."""
 from __future__ import annotations
 
 import os
+import re
 import stat
 import unittest
 from pathlib import Path
@@ -127,6 +128,58 @@ class Left(TryCase):
         self.assertIn("# good", done.stdout)
         page = next((self.work() / "private").glob("report.html")).read_text(encoding="utf-8")
         self.assertNotIn("canary-text", page)
+
+    def test_what_replaces_the_files_of_later_steps(self) -> None:
+        steps = ""
+        for number, form in enumerate(("ln -s /dev/zero", "mkfifo", "mkdir", "truncate -s 1T", "ln -s .")):
+            steps += f"""
+- run: |
+    files=$(dirname "$GITHUB_PATH")
+    for file in path-0 summary-0-{2 * number + 1} state-0-{2 * number + 1}.new; do
+      rm -rf "$files/$file"; {form} "$files/$file"
+    done
+- run: test {number} = 3 || echo /added >> "$GITHUB_PATH"; echo passed
+  shell: {"sh" if number % 2 else "bash"}
+"""
+        self.workflow(steps + "- run: echo $PATH")
+        done = self.attempt()
+        self.assert_status(done, 0)
+        self.assertEqual(len(re.findall("(?m)^passed$", done.stdout)), 5)
+        self.assertRegex(done.stdout, r"(?m)^/added:")
+
+    def test_a_leg_has_nothing_of_another(self) -> None:
+        self.write(".github/workflows/ci.yml", """\
+on: push
+jobs:
+  one:
+    runs-on: ubuntu-latest
+    steps:
+      - run: |
+          echo canary | tee own "$RUNNER_TEMP/own" >> "$GITHUB_STEP_SUMMARY"
+          touch "$ACTRUN_CACHE/there"
+          for at in $(seq 600); do test -e "$ACTRUN_CACHE/looked" && break; sleep 0.1; done
+      - run: |
+          echo "path $PATH"
+          ls > list; test ! -e other
+  two:
+    runs-on: ubuntu-latest
+    steps:
+      - run: |
+          for at in $(seq 600); do test -e "$ACTRUN_CACHE/there" && break; sleep 0.1; done
+          play=${RUNNER_TEMP%/temp/*}
+          cat "$play"/legs/*/*/own "$play"/temp/*/own "$play"/files/*/summary-0-0 || true
+          for file in files/0/path-0 legs/0-0/project/other temp/0-0/other tree/project/other; do
+            mkdir -p "$play/${file%/*}" && echo /other > "$play/$file" || true
+          done
+          touch "$ACTRUN_CACHE/looked"
+""")
+        done = self.attempt("--workers", "2")
+        self.assert_status(done, 0)
+        self.assertEqual(re.findall("(?m)^.*canary$", done.stdout), ["canary"])  # (the summary)
+        self.assertNotRegex(done.stdout, "path.*/other")
+        play = self.work() / "play"
+        found = [str(path.relative_to(play)) for path in play.rglob("other")]
+        self.assertEqual((found, (play / "files/0/path-0").read_bytes()), ([], b""))
 
     def test_links_in_place_of_folders(self) -> None:
         notes = self.home / "notes" / "0-inbox"

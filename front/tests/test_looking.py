@@ -6,6 +6,7 @@ Each attack would touch a canary.
 from __future__ import annotations
 
 import os
+import resource
 import shutil
 import subprocess
 import time
@@ -427,7 +428,7 @@ class Limits(unittest.TestCase):
 
     def test_aliases_as_keys(self) -> None:
         rows = ["a0: &a0 [x, x]"] + [f"a{at}: &a{at} [*a{at - 1}, *a{at - 1}]" for at in range(1, 40)]
-        self.assertIn("a key must be a text", self.faults("\n".join(rows) + "\n? *a39\n: 1\n"))
+        self.assertIn("a key must be a string", self.faults("\n".join(rows) + "\n? *a39\n: 1\n"))
 
     def test_length_and_depth(self) -> None:
         self.assertIn("more than 10 MB", self.faults("#" * 10_000_001))
@@ -445,7 +446,36 @@ class Limits(unittest.TestCase):
 
 
 class Command(TryCase):
-    """from-yaml reads what was named, and nothing else."""
+    """from-yaml and lint read what was named, and nothing else."""
+
+    def called(self, *words: str) -> subprocess.CompletedProcess[str]:
+        """Calls a command in the project, with little memory."""
+        return subprocess.run([*self.command()[:1], str(FRONT), *words], cwd=self.project, env=self.environment, capture_output=True,
+                              text=True, check=False, timeout=60, preexec_fn=lambda: resource.setrlimit(resource.RLIMIT_AS, (1 << 30, 1 << 30)))
+
+    def test_nothing_is_written_by_a_link(self) -> None:
+        self.workflow("- run: x")
+        outside = self.home / ".bash_aliases"
+        json = self.project / ".github" / "workflows" / "ci.json"
+        for make in (lambda: json.symlink_to(outside), lambda: os.mkfifo(json)):
+            make()
+            for more in ((), ("--force",)):
+                done = self.called("from-yaml", *more, ".github/workflows/ci.yml")
+                self.assertEqual(done.returncode, 2)
+                self.assertIn("is a link or no plain file", done.stderr)
+            json.unlink()
+        self.assertFalse(outside.exists())
+
+    def test_pipes_devices_and_aliases(self) -> None:
+        folder = self.write("f/many.yml", "a0: &a0 [" + "x," * 9 + "x]\n" + "".join(
+            f"a{at}: &a{at} [" + f"*a{at - 1}," * 9 + f"*a{at - 1}]\n" for at in range(1, 12))).parent
+        os.mkfifo(folder / "pipe.yml")
+        (folder / "zero.yml").symlink_to("/dev/zero")
+        for command in ("lint", "from-yaml"):
+            for name, status, text in (("many", 2, f"more than {MOST_PLACES} values"), ("pipe", 2, "the file is empty"),
+                                       ("zero", 3, "this is no plain file")):
+                done = self.called(command, f"f/{name}.yml")
+                self.assertEqual((done.returncode, text in done.stdout + done.stderr), (status, True), done)
 
     def test_called_workflow_elsewhere(self) -> None:
         outside = self.home / "outside.yml"

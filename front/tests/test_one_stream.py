@@ -127,6 +127,36 @@ class Tried(TryCase):
                       done.stdout)
         self.assertNotIn("\nunseen", done.stdout)
 
+    def test_an_old_command_of_a_program(self) -> None:
+        self.write("say.sh", "printf '  ::set-output name=a::one%%0Atwo %%25 \\r\\n::set-output name=b::old\\n x ::set-output name=c::no\\n'\n"
+                             "echo ::stop-commands::t; echo ::set-output name=d::no; echo ::t::; echo b=new >> $GITHUB_OUTPUT\n")
+        self.workflow("- run: sh say.sh\n  id: s\n- run: echo \"${{ toJSON(steps.s.outputs) }}\" | tr -d '\\n'")
+        for more in ((), ("--no-sandbox",)):
+            done = self.attempt(*more)
+            self.assert_status(done, 0)
+            self.assertIn("\n{  a: onentwo % ,  b: new}\n", done.stdout)
+
+    def test_variables_of_the_runner_stay(self) -> None:
+        self.workflow("- run: printf 'GITHUB_REF=no\\nRUNNER_OS<<E\\nno\\nE\\nGITHUB_TOKEN=t\\nCI=mine\\n' >> $GITHUB_ENV\n"
+                      "- run: echo \"$GITHUB_REF $RUNNER_OS $GITHUB_TOKEN $CI\"\n"
+                      "- run: echo \"own $GITHUB_REF\"\n  env: {GITHUB_REF: no}")
+        self.commit()
+        for more in ((), ("--no-sandbox",)):
+            done = self.attempt(*more)
+            self.assert_status(done, 0)
+            self.assertIn("\nrefs/heads/main Linux t mine\n", done.stdout)
+            self.assertIn("\nown refs/heads/main\n", done.stdout)
+            self.assertNotIn("Can't store", done.stdout)
+
+    def test_a_variable_that_no_step_sets(self) -> None:
+        self.workflow("- run: printf 'A=1\\nNode_Options=--x\\nNODE_OPTIONS<<E\\nB=no\\nE\\nC=2\\n' >> $GITHUB_ENV\n"
+                      "- run: echo \"$A [$NODE_OPTIONS] [$B] $C\"")
+        for more in ((), ("--no-sandbox",)):
+            done = self.attempt(*more)
+            self.assert_status(done, 0)
+            self.assertIn("\n1 [] [] 2\n", done.stdout)
+            self.assertIn("error: Can't store NODE_OPTIONS output parameter using '$GITHUB_ENV' command.\n", done.stdout)
+
     def test_one_byte_that_is_no_text_hides_nothing(self) -> None:
         self.workflow("- run: printf 'before \\xff after\\n'; echo whole; echo \"::warning::it is "
                       "caf\\xe9\"\n- run: echo next", WORKFLOW)

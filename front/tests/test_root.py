@@ -81,8 +81,9 @@ class OfPersonCase(RootCase):
 
     def setUp(self) -> None:
         super().setUp()
-        if shutil.which("fuse-overlayfs") is None or not os.access("/dev/fuse", os.R_OK | os.W_OK):
-            self.skipTest("fuse-overlayfs is not installed, or there is no /dev/fuse")
+        words = [*self.before(), "sh", "-c", "test -r /dev/fuse && test -w /dev/fuse"]
+        if shutil.which("fuse-overlayfs") is None or subprocess.run(words, capture_output=True, check=False).returncode:
+            self.skipTest("fuse-overlayfs is not installed, or an ordinary user cannot open /dev/fuse")
         words = [*self.before(), sys.executable, "-c", f"open({__file__!r})"]
         if subprocess.run(words, capture_output=True, check=False).returncode:
             self.skipTest("an ordinary user cannot read this folder")
@@ -315,7 +316,8 @@ class Parts(unittest.TestCase):
         done = subprocess.run([self.folder / "sudo", "false"], capture_output=True, text=True, check=False)
         self.assertEqual(done.returncode, 1 if os.geteuid() else done.returncode)
         self.assertIn("sudo: the system is read-only here, since fuse-overlayfs is not installed (apt-get install fuse-overlayfs): "
-                      "`actrun try --no-sandbox` lets steps change this machine", done.stderr)
+                      "install what the step needs on this machine, or execute the job in a `container`; with --no-sandbox "
+                      "every step would have your rights, and change this machine for good", done.stderr)
 
     def test_a_missing_fuse_overlayfs_is_named(self) -> None:
         with mock.patch.object(root, "which", return_value=""), self.assertRaisesRegex(OSError, "apt-get install fuse-overlayfs"):

@@ -1,4 +1,4 @@
-"""What a step in the sandbox reaches, and what happens where there is no sandbox. Canaries replace what
+"""What a step in the sandbox reaches, and what happens if there is no sandbox. Canaries replace what
 must stay untouched."""
 from __future__ import annotations
 
@@ -16,6 +16,11 @@ from actrun_front import Problem, broker, network, sandbox, seccomp
 from .try_case import NEEDS_PROGRAM, WORKFLOW, TryCase, sandbox_works
 
 NEEDS_SANDBOX = unittest.skipUnless(sandbox_works(), "bwrap is not installed or does not work here")
+
+
+def network_works() -> bool:
+    """Whether slirp4netns can give a sandbox a network of its own here."""
+    return network.maker() != "" and os.access("/dev/net/tun", os.R_OK | os.W_OK)
 
 
 @NEEDS_PROGRAM
@@ -46,7 +51,7 @@ class Reach(TryCase):
 """)
         done = self.attempt("--workers", "2", "-s", "CANARY=canary-of-one")
         self.assert_status(done, 0)
-        self.assertIn("\n0\n", done.stdout)
+        self.assertIn("\n0\n", self.printed(done))
 
     def test_the_system_is_there_and_nothing_else(self) -> None:
         canary = self.home / "canary"
@@ -113,7 +118,7 @@ class Reach(TryCase):
         done = self.attempt("--workers", "2")
         self.assert_status(done, 1)
         self.assertIn("the sandbox of its leg has ended", done.stdout)
-        self.assertIn("\nfine\n", done.stdout)
+        self.assertIn("\nfine\n", self.printed(done))
 
     def test_a_step_cannot_choose_what_stands_for_its_shell(self) -> None:
         self.write("evil/bash", "#!/bin/sh\necho evil; cat /proc/*/fd/0; exec /bin/bash \"$@\"\n", 0o755)
@@ -188,6 +193,79 @@ class Reach(TryCase):
         self.assertEqual(done.stderr.count("✗"), 4)
 
 
+class Network(TryCase):
+    """What a step reaches by the network."""
+
+    def setUp(self) -> None:
+        super().setUp()
+        self.server, self.abstract = socket.socket(), socket.socket(socket.AF_UNIX)
+        self.addCleanup(self.server.close)
+        self.addCleanup(self.abstract.close)
+        self.server.bind(("127.0.0.1", 0))
+        name = f"\0actrun-canary-{os.getpid()}"
+        self.abstract.bind(name)
+        for one in (self.server, self.abstract):
+            one.listen()
+        self.port = self.server.getsockname()[1]
+        self.workflow(f"""
+- run: |
+    python3 - <<'END'
+    import socket
+    for kind, place in ((socket.AF_INET, ("127.0.0.1", {self.port})), (socket.AF_INET, ("10.0.2.2", {self.port})),
+                        (socket.AF_UNIX, {name!r})):
+        try:
+            with socket.socket(kind) as it:
+                it.settimeout(5)
+                it.connect(place)
+                print("reached", place[0])
+        except OSError:
+            print("out of reach", place[0])
+    END
+- run: cat /proc/net/dev /etc/resolv.conf
+""")
+
+    @unittest.skipUnless(network_works(), "slirp4netns or /dev/net/tun is not there")
+    def test_a_leg_reaches_no_server_of_this_machine(self) -> None:
+        done = self.attempt()
+        self.assert_status(done, 0)
+        self.assertEqual(done.stdout.count("out of reach"), 3, done.stdout)
+        self.assertIn("tap0", done.stdout)
+        self.assertIn(f"nameserver {network.NAMES_SERVER}", done.stdout)
+        self.assertNotIn("share the network", done.stderr)
+
+    def test_the_network_of_this_machine_is_shared_where_that_is_asked_for(self) -> None:
+        done = self.attempt("--host-network")
+        self.assert_status(done, 0)
+        self.assertIn("reached 127.0.0.1", done.stdout)
+        self.assertRegex(done.stderr, rf"steps share the network .*127\.0\.0\.1:{self.port}.*: --offline takes it away\n")
+
+    @unittest.skipUnless(network_works() and os.geteuid() == 0, "needs root and slirp4netns")
+    def test_mounts_of_this_machine_stay(self) -> None:
+        inner = self.room / "shared" / "inner"
+        inner.parent.mkdir()
+        for words in (["mount", "-t", "tmpfs", "shared", inner.parent], ["mount", "--make-shared", inner.parent], ["mkdir", inner],
+                      ["mount", "-t", "tmpfs", "inner", inner]):
+            if subprocess.run(words, capture_output=True, check=False).returncode:
+                self.skipTest("a file system cannot be mounted here")
+            if words[0] == "mount":
+                self.addCleanup(subprocess.run, ["umount", "-l", words[-1]], capture_output=True, check=False)
+        self.assert_status(self.attempt(), 0)
+        self.assertTrue(os.path.ismount(inner))
+
+    def test_a_network_that_cannot_be_made_is_told(self) -> None:
+        program = self.write("slirp4netns", "#!/bin/sh\necho no device >&2\nexit 1\n", 0o755)
+        told, info = os.pipe()
+        os.write(info, b'{"child-pid": %d}' % os.getpid())
+        with self.assertRaisesRegex(network.NoNetwork, "slirp4netns fails: no device"):
+            network.connect(str(program), told)
+        os.close(info)
+        with self.assertRaisesRegex(network.NoNetwork, "bwrap does not show its network"):
+            network.connect(str(program), told)
+        os.close(told)
+
+
+@NEEDS_PROGRAM
+@NEEDS_SANDBOX
 class FailsClosed(TryCase):
     """Without a sandbox nothing is executed."""
 

@@ -14,8 +14,9 @@ from pathlib import Path
 from .try_case import FRONT, NEEDS_PROGRAM, PROGRAM, WORKFLOW, TryCase
 
 TOP = FRONT.parent
-COMMANDS = {"try": "attempt", "from-yaml": "from_yaml", "debug": "debug", "dap": "dap", "report": "report",
-            "timeline": "timeline", "explain": "explain"}
+COMMANDS = {"try": "attempt", "from-yaml": "from_yaml", "lint": "lint", "debug": "debug", "dap": "dap", "report": "report",
+            "timeline": "timeline", "explain": "explained", "explain-error": "explain", "last": "last", "open": "open_page",
+            "files": "changed_files"}
 # starts the front with a command that fails
 FAILS = """\
 import importlib, runpy, sys
@@ -52,6 +53,11 @@ class Errors(TryCase):
             self.assertEqual((place.parent, place.stat().st_mode & 0o777),
                              (self.home / ".cache" / "actrun" / "faults", 0o600))
             self.assertIn("KeyError: 'sesame'", place.read_text(encoding="utf-8"))
+
+    def test_an_interrupt_while_a_class_is_made(self) -> None:
+        given = "type('Made', (), {'it': type('Part', (), {'__set_name__': lambda *_: __import__('actrun_front.stopping').stopping.stop(2, None)})()})"
+        done = self.fail("report", given)
+        self.assertEqual((done.returncode, done.stderr), (130, "actrun: stopped by Ctrl-C\n"))
 
     def test_only_the_last_ones_are_kept(self) -> None:
         folder = self.home / ".cache" / "actrun" / "faults"
@@ -183,7 +189,7 @@ class Overwriting(unittest.TestCase):
             yaml.write_text("on: push\n", encoding="utf-8")
             made.write_text('{"mine": 1}\n', encoding="utf-8")
             done = convert()
-            told = f"from-yaml: {made} is there already, with something else: --force replaces it, -o OUT names another place\n"
+            told = f"from-yaml: {made} exists, with other contents: --force replaces it, -o OUT names another place\n"
             self.assertEqual((done.returncode, done.stdout, done.stderr, made.read_text(encoding="utf-8")),
                              (2, "", told, '{"mine": 1}\n'))
             for words in (["--force"], [], ["-o", str(made)]):

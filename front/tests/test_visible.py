@@ -60,7 +60,7 @@ class Filter(unittest.TestCase):
         screen = Screen()
         with contextlib.redirect_stderr(io.StringIO()) as error:
             screen.live = True
-            screen.status(STEERS)
+            screen.view([STEERS])
         self.assertIn(SHOWN, error.getvalue())
 
 
