@@ -1,8 +1,8 @@
 """Strategies that read outputs of other jobs: these jobs are executed first, then all is planned again.
 
-The jobs that such a strategy needs are executed by a plan in which no other job begins. Its record has the values,
-and the answers of steps. In the next execution a step whose answer is known is not started again: the prelude gives
-its output, its files and its status. So the last record is one of the whole plan.
+The jobs that such a strategy needs are executed by a plan in which no other job begins. Its record has the
+values, and the answers of steps. In the next execution a step whose answer is known is not started again: the
+prelude gives its output, its files and its status. So the last record is one of the whole plan.
 """
 from __future__ import annotations
 
@@ -11,13 +11,14 @@ import json
 import os
 import re
 import secrets
-import stat
 from dataclasses import dataclass, field
-from typing import TYPE_CHECKING, Any, Iterable
+from typing import TYPE_CHECKING, Any, Iterable, Tuple
 
 from . import Problem
 from .contexts import Play
-from .execute import ask
+from .dap_record import Board, Record, board_of
+from .execute import program
+from .files import first_bytes, names
 from .planning import Flow, plan_flows
 from .present import Leg, Screen, legs_of
 from .tree import remove
@@ -25,7 +26,7 @@ from .tree import remove
 if TYPE_CHECKING:
     from .attempt import Trial
 
-Place = tuple  # workflow, job's id, number of the leg in the job, step
+Place = Tuple[str, str, int, int]  # workflow, job's id, number of the leg in the job, step
 MOST_LOG = 1 << 24
 OF_STEPS = ("files", "stubs", "bin")  # folders in which the front writes before steps begin, and steps too
 KEPT = re.compile(r"([a-z]+)-(\d+)((?:-\d+)?)")  # files of legs and steps
@@ -52,6 +53,7 @@ class Answer:
     answer: dict[str, Any]                     # as its entry has it
     log: bytes
     cause: str = ""                            # why it was ended, if it was
+    snapshot: bytes = b""                      # of the workspace after it
 
 
 @dataclass
@@ -64,12 +66,16 @@ class Stages:
     count: int = 0
     by_hand: list[str] = field(default_factory=list)  # what a person did at breaks, in all stages
     prompt: Any = None                         # of the breaks
+    earlier: Any = None                        # an execution whose steps are not all executed again
+    call: Any = None                           # how `try` was called
+    store: Any = None                          # of snapshots
+    control: Any = None                        # by which editors stop legs
 
     def known(self, flows: list[Flow], legs: list[Leg]) -> dict[tuple[int, int], Answer]:
         """The answers by numbers of legs and steps of a plan."""
         by_leg: dict[tuple[str, str, int], list[tuple[int, Answer]]] = {}
-        for (*place, step), answer in self.answers.items():
-            by_leg.setdefault(tuple(place), []).append((step, answer))
+        for (flow, job, index, step), answer in self.answers.items():
+            by_leg.setdefault((flow, job, index), []).append((step, answer))
         return {(leg.number, step): answer
                 for place, leg in places(flows, legs) for step, answer in by_leg.get(place, ())}
 
@@ -83,8 +89,8 @@ def places(flows: list[Flow], legs: list[Leg]) -> Iterable[tuple[tuple[str, str,
 
 
 def plan_of_stage(flows: list[Flow], plan: dict[str, Any]) -> tuple[dict[str, Any], list[tuple[int, str]]]:
-    """The plan of the next stage, and the jobs whose strategies are known after it, by run and id. Only the jobs
-    that these need, directly or not, begin in it."""
+    """The plan of the next stage, and the jobs whose strategies are known after it, by run and id. Only the
+    jobs that these need, directly or not, begin in it."""
     begun: set[int] = set()
     ready: list[tuple[int, str]] = []
     for run, flow in enumerate(flows):
@@ -109,60 +115,27 @@ def waits_for(name: str, late: str) -> bool:
     return name == late or name.startswith(f"{late}__")
 
 
-def results(plan: dict[str, Any], board: str) -> dict[int, dict[str, Any]]:
-    """Result and outputs of each job, as the context `needs` has them, by the text of the board."""
-    legs, ended = legs_of(plan), [line.split()[1:] for line in board.splitlines() if line.startswith("ends ")]
-    found_states = re.findall(r"(?m)^leg (\d+) ended (\w+(?: tolerated)?)", board)
-    states = {int(number): state for number, state in found_states}
-    shut = {int(number): state for number, state in re.findall(r"(?m)^job (\d+) shut (\w+)", board)}
-    outputs: dict[int, Any] = {}
-    leg = 0
-    for line in board.splitlines():
-        head, _, rest = line.partition(" ")
-        if head == "leg":
-            leg = int(rest.split(" ")[0])
-        elif head == "out":
-            outputs[leg] = json.loads(rest)
-    found: dict[int, dict[str, Any]] = {}
-    for number in {leg.job["number"] for leg in legs}:
-        own = {states.get(leg.number) for leg in legs if leg.job["number"] == number}
-        result = next((state for state in ("failure", "cancelled") if state in own), "success")
-        found[number] = {"result": shut.get(number, result), "outputs": {}}
-    for number in map(int, ended[0] if ended else []):
-        found[legs[number].job["number"]]["outputs"].update(outputs.get(number, {}))
-    return found
-
-
-def read_file(folder: int, name: str, most: int) -> bytes:
-    """The first bytes of a regular file of steps, no link is followed; nothing where it cannot be read."""
-    try:
-        file = os.open(name, os.O_RDONLY | os.O_NOFOLLOW | os.O_NONBLOCK | os.O_CLOEXEC, dir_fd=folder)
-    except OSError:
-        return b""
-    with open(file, "rb") as stream:
-        return stream.read(most) if stat.S_ISREG(os.fstat(file).st_mode) else b""
+def results(plan: dict[str, Any], board: Board) -> dict[int, dict[str, Any]]:
+    """Result and outputs of each job, as the context `needs` has them."""
+    legs = legs_of(plan)
+    own = {job: [leg.number for leg in legs if leg.job["number"] == job] for job in range(len(board.jobs))}
+    return {job: {"result": board.result(job, found), "outputs": board.outputs(found)}
+            for job, found in own.items()}
 
 
 def take_answers(stages: Stages, trial: Trial) -> None:
     """Adds the answers of the record of a stage, with the logs."""
     legs = {leg.number: place for place, leg in places(trial.flows, trial.legs)}
     stages.numbers = {place: number for number, place in legs.items()}
-    begun: dict[int, int] = {}
-    folder = os.open(trial.room.play, os.O_RDONLY | os.O_DIRECTORY | os.O_NOFOLLOW | os.O_CLOEXEC)
-    quiet = trial.board.quiet
-    try:
-        for line in trial.record.read_text(encoding="utf-8").splitlines()[1:]:
-            entry = json.loads(line)
-            leg = entry.get("leg", -1)
-            if entry["event"] == "begin":
-                begun[leg] = begun.get(leg, -1) + 1
-            elif entry["event"] == "end" and (leg, begun[leg]) not in quiet:
-                text = read_file(folder, f"step-{leg}-{begun[leg]}.log", MOST_LOG)
+    record = Record(program(), trial.record.read_bytes())
+    for leg, rows in enumerate(record.done):
+        for step, place in enumerate(rows):
+            answer = record.entries[place].get("answer")
+            if answer and (leg, step) not in trial.board.quiet:
+                text = first_bytes(trial.room.play, f"step-{leg}-{step}.log", most=MOST_LOG)
                 log = re.sub(rb"\A(?:%s[^\n]*\n)*" % trial.board.mark.encode(), b"", text)  # (the prelude's)
-                cause = trial.board.cause(leg, begun[leg])
-                stages.answers[(*legs[leg], begun[leg])] = Answer(entry["answer"], log, cause)
-    finally:
-        os.close(folder)
+                cause, snapshot = trial.board.cause(leg, step), trial.snapshots.get((leg, step), b"")
+                stages.answers[(*legs[leg], step)] = Answer(answer, log, cause, snapshot)
 
 
 def pairs(values: dict[str, str]) -> str:
@@ -171,12 +144,14 @@ def pairs(values: dict[str, str]) -> str:
     return "".join(f"{name}<<{end}\n{value}\n{end}\n" for name, value in values.items())
 
 
-def tell_answers(stages: Stages, trial: Trial) -> None:
-    """Writes what the prelude gives in place of steps whose answer is known."""
-    known = stages.known(trial.flows, trial.legs)
+def tell_answers(stages: Stages, trial: Trial) -> dict[tuple[int, int], Answer]:
+    """The answers of steps that are not executed again. Without a sandbox, writes what the prelude gives in
+    their place."""
+    known: dict[tuple[int, int], Answer] = stages.earlier.known(trial) if stages.earlier else {}
+    known.update(stages.known(trial.flows, trial.legs))
     trial.board.quiet = set(known)
     trial.board.told = {place: answer.cause for place, answer in known.items() if answer.cause}
-    for (leg, step), answer in known.items():
+    for (leg, step), answer in known.items() if trial.options.no_sandbox else ():
         folder = trial.told / f"known-{leg}-{step}"
         folder.mkdir()
         of_exit = answer.answer["kind"] == "exit"
@@ -184,11 +159,12 @@ def tell_answers(stages: Stages, trial: Trial) -> None:
         (folder / "env").write_bytes(pairs(answer.answer.get("env", {})).encode() if of_exit else b"")
         (folder / "code").write_text(str(answer.answer["code"] if of_exit else 1), encoding="utf-8")
         (folder / "log").write_bytes(answer.log)
-    renew(stages, trial)
+    return known
 
 
 def renew(stages: Stages, trial: Trial) -> None:
-    """Makes the folders new in which the front writes: steps could have put links there. What legs wrote stays."""
+    """Makes the folders new in which the front writes: steps could have put links there. What legs wrote
+    stays."""
     old_names = {number: place for place, number in stages.numbers.items()}
     new_numbers = {place: leg.number for place, leg in places(trial.flows, trial.legs)}
     play, aside = trial.room.play, trial.room.folder / "aside"
@@ -197,31 +173,28 @@ def renew(stages: Stages, trial: Trial) -> None:
         with contextlib.suppress(FileNotFoundError):
             os.rename(play / name, aside / name)
         (play / name).mkdir(mode=0o700)
-    with contextlib.suppress(OSError):  # (a link, or no folder)
-        folder = os.open(aside / "files", os.O_RDONLY | os.O_DIRECTORY | os.O_NOFOLLOW | os.O_CLOEXEC)
-        try:
-            for name in os.listdir(folder):
-                found = KEPT.fullmatch(name)
-                leg = new_numbers.get(old_names.get(int(found[2]), ("", "", 0))) if found else None
-                if found and leg is not None:
-                    new = play / "files" / f"{found[1]}-{leg}{found[3]}"
-                    new.write_bytes(read_file(folder, name, MOST_LOG))
-        finally:
-            os.close(folder)
+    for old, leg in ((old, new_numbers.get(place)) for old, place in old_names.items()):
+        for name in names(aside, "files", str(old)) if leg is not None else ():
+            found = KEPT.fullmatch(name)
+            if found and int(found[2]) == old:
+                (play / "files" / str(leg)).mkdir(exist_ok=True)
+                new = play / "files" / str(leg) / f"{found[1]}-{leg}{found[3]}"
+                new.write_bytes(first_bytes(aside, "files", str(old), name, most=MOST_LOG))
     remove(aside)
 
 
 def execute_stages(trial: Trial, picked: list[Flow], play: Play, screen: Screen) -> tuple[Trial, bool]:
-    """The execution of the whole plan, after its stages were executed; with False a stage that was stopped."""
-    stages, kind, screen = Stages(), type(trial), Once(screen)
+    """The execution of the whole plan, after its stages were executed; with False a stage that was
+    stopped."""
+    stages, kind, screen = trial.stages, type(trial), Once(screen)
     while any(flow.lowered.late for flow in trial.flows):
         plan, ready = plan_of_stage(trial.flows, trial.plan)
         if not ready:
-            names = ", ".join(job for flow in trial.flows for job in flow.lowered.late)
-            raise Problem(f"the strategies of {names} wait for one another")
+            jobs = ", ".join(job for flow in trial.flows for job in flow.lowered.late)
+            raise Problem(f"the strategies of {jobs} wait for one another")
         stages.count += 1
-        names = ", ".join(job for _, job in ready)
-        text = f"note: stage {stages.count}: what the strategy of {names} needs is executed first"
+        jobs = ", ".join(job for _, job in ready)
+        text = f"note: stage {stages.count}: what the strategy of {jobs} needs is executed first"
         screen.tell(text, "note")
         stage = kind(trial.flows, play, plan, screen, stages)
         if stage.perform() > 1 or stage.execution.signals:
@@ -229,7 +202,7 @@ def execute_stages(trial: Trial, picked: list[Flow], play: Play, screen: Screen)
         stage.part.unlink(missing_ok=True)
         take_answers(stages, stage)
         stages.timed_out |= stage.board.ender.timed_out
-        found = results(plan, ask("replay", stage.record).stdout)
+        found = results(plan, board_of(stage.record))
         for run, late in ready:
             flow = trial.flows[run]
             numbers = {job["id"]: job["number"] for job in plan["runs"][run]["jobs"]}

@@ -1,19 +1,32 @@
 """hashFiles of files that steps may have made: a step before the one that names it computes the digests.
 
-The program's expressions have no such call, and the files are known only then. So the call becomes an output of the
-new step, which has the variables and the condition of the other one, and shows nothing unless it fails.
+The program's expressions have no such call, and the files are known only then. So the call becomes an output
+of the new step, which has the variables and the condition of the other one, and shows nothing unless it
+fails.
 """
 from __future__ import annotations
 
 import re
 from typing import Any, Dict, List, Tuple
 
-from .expressions import (PIECE, Rules, as_text, condition_expression, expression_of, grouped, has_expression, known_keys,
-                          names_status, rewrite, tokens)
+from .expressions import (
+    PIECE,
+    Rules,
+    as_text,
+    condition_expression,
+    expression_of,
+    grouped,
+    has_expression,
+    known_keys,
+    names_status,
+    rewrite,
+    tokens,
+)
 from .lower_tree import Lowering, free_name, part, steps_of
 from .yaml_reader import Map, Sequence, mark_of
 
 PREFIX = "actrun_hash_"  # of the ids of these steps
+OUTPUTS = "actrun_outputs"  # and of those that hand on the outputs of a job with a matrix
 HARMLESS = re.compile(r"actions/(setup-[\w-]+|upload-artifact)(@|$)", re.IGNORECASE)
 CHECKOUT = re.compile("actions/checkout(@|$)", re.IGNORECASE)
 OF_OTHER_FILES = {"path", "ref", "repository", "sparse-checkout", "submodules"}  # inputs of checkout
@@ -24,8 +37,8 @@ KEYS = ("if", "run", "env", "with")
 
 
 def is_hidden(step: Dict[str, Any]) -> bool:
-    """Whether a step of a plan was added here."""
-    return (step.get("id") or "").startswith(PREFIX)
+    """Whether a step of a plan was added here, or for outputs."""
+    return (step.get("id") or "").startswith((PREFIX, OUTPUTS))
 
 
 def with_calls(text: str, steps: List[Dict[str, Any]]) -> str:
@@ -42,7 +55,8 @@ def with_calls(text: str, steps: List[Dict[str, Any]]) -> str:
 
 
 def add_hashes(lowering: Lowering, job: Any) -> None:
-    """Adds such a step before each one of a job that names hashFiles, unless its value is known before execution."""
+    """Adds such a step before each one of a job that names hashFiles, unless its value is known before
+    execution."""
     if not lowering.setting.watched or "container" in job.marks or not isinstance(job["steps"], list):
         return
     taken = {step["id"] for step in steps_of(job) if isinstance(step.get("id"), str)}
@@ -82,7 +96,8 @@ def names_hash(value: Any, top: bool = True) -> bool:
 
 def calls_of(expression: str) -> Tuple[str, List[List[str]]]:
     """An expression with `{N}` in place of each call of hashFiles, and the arguments of each."""
-    parts, found, at, new = tokens(expression) or [("wrong", expression)], [], 0, ""
+    parts, at, new = tokens(expression) or [("wrong", expression)], 0, ""
+    found: List[List[str]] = []
     while at < len(parts):
         kind, text = parts[at]
         at += 1
@@ -126,7 +141,9 @@ class Hashing:
         text, found = calls_of(expression)
         for number, arguments in enumerate(found):
             self.own.extend([arguments] if arguments not in self.own else [])
-            text = text.replace(f"\0{number}\0", f"steps.{self.identity}.outputs.h{self.own.index(arguments)}")
+            text = text.replace(
+                f"\0{number}\0", f"steps.{self.identity}.outputs.h{self.own.index(arguments)}"
+            )
         return text
 
     def text(self, value: Any, condition: bool = False) -> Any:
@@ -142,7 +159,7 @@ class Hashing:
         return PIECE.sub(lambda it: "${{" + self.expression(it[1]) + "}}", value)
 
     def before(self) -> Any:
-        """Rewrites the step, and gives the one before it; None where no call is in an expression."""
+        """Rewrites the step, and gives the one before it; None if no call is in an expression."""
         step, condition, name = self.step, self.step.get("if"), step_title(self.step)
         env = {key: value for key, value in part(step, "env").items() if not names_hash(value)}
         for key in KEYS:
@@ -153,8 +170,17 @@ class Hashing:
         name = self.text(name)
         if "uses" not in step or "name" in step:
             step["name"] = name
-        made = Map({"id": self.identity, "name": f"hashFiles of {name}", "shell": "bash", "working-directory": ".",
-                    "run": 'eval "$ACTRUN_HASHER"\n', "env": {**env, **self.patterns(env)}}, mark_of(step))
+        made = Map(
+            {
+                "id": self.identity,
+                "name": f"hashFiles of {name}",
+                "shell": "bash",
+                "working-directory": ".",
+                "run": 'eval "$ACTRUN_HASHER"\n',
+                "env": {**env, **self.patterns(env)},
+            },
+            mark_of(step),
+        )
         if names_hash(condition):
             made["if"] = "always()" if names_status(condition_expression(condition)) else "success()"
         elif condition is not None:
@@ -165,7 +191,8 @@ class Hashing:
         return made
 
     def patterns(self, env: Dict[str, Any]) -> Dict[str, str]:
-        """The variables with the patterns of each call, a line each, where the step's own variables are written out."""
+        """The variables with the patterns of each call, a line each, where the step's own variables are
+        written out."""
         own = {name: grouped(as_text(expression_of(value))) for name, value in env.items()}
         rules = Rules({"env": known_keys(own)})
         return {f"ACTRUN_HASH_{at}": "\n".join("${{ " + rewrite(one, rules) + " }}" for one in call)

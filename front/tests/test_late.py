@@ -12,6 +12,7 @@ import time
 import unittest
 from pathlib import Path
 
+from actrun_front.dap_record import Board
 from actrun_front.late import pairs, results
 from actrun_front.present import legs_of
 
@@ -67,7 +68,7 @@ class Stages(LateCase):
         self.assert_status(done, 0)
         self.assertIn("note: stage 1: what the strategy of use needs is executed first\n", done.stderr)
         for text in ("the word is kept", "used a 2", "used b 2", "other", "# made"):
-            self.assertEqual(done.stdout.count(f"\n{text}\n"), 1, text)
+            self.assertEqual(self.printed(done).count(f"\n{text}\n"), 1, text)
         self.assertEqual(len(re.findall("(?m)^\\S+ make: ", done.stderr)), 2, done.stderr)
         self.assertEqual(self.count(), 1)
         board = self.board()
@@ -95,7 +96,7 @@ class Stages(LateCase):
         done = self.attempt("--no-sandbox")
         self.assert_status(done, 0)
         self.assertIn("note: stage 2: what the strategy of last needs is executed first\n", done.stderr)
-        self.assertIn("\nlast 5\n", done.stdout)
+        self.assertIn("\nlast 5\n", self.printed(done))
         self.assertEqual(self.count(), 1)
         self.assertIn("ended success\n", self.board())
 
@@ -105,7 +106,7 @@ class Stages(LateCase):
         done = self.attempt("--no-sandbox")
         self.assert_status(done, 0)
         self.assertEqual(self.count(), 2)
-        self.assertEqual(done.stdout.count("\nused 3 3\n"), 2)
+        self.assertEqual(self.printed(done).count("\nused 3 3\n"), 2)
         self.assertEqual(done.stdout.count("\n# made\n"), 2)
         self.assertEqual(len(re.findall("(?m)^leg . ended success$", self.board())), 8)
 
@@ -140,14 +141,14 @@ jobs: {inner: {runs-on: ubuntu-latest, steps: [{run: 'echo called ${{ inputs.wor
 """)
         done = self.attempt("--no-sandbox")
         self.assert_status(done, 0)
-        self.assertIn("\ncalled a\n", done.stdout)
-        self.assertIn("\ncalled b\n", done.stdout)
+        self.assertIn("\ncalled a\n", self.printed(done))
+        self.assertIn("\ncalled b\n", self.printed(done))
         self.assertEqual(self.count(), 1)
 
     def test_links_of_a_step_are_not_followed(self) -> None:
         target = self.room / "target"
         target.write_text("mine", encoding="utf-8")
-        links = ("for name in files stubs bin; do for it in $PLAY/$name/* $PLAY/$name/summary-0-0 $PLAY/$name/path-0; do "
+        links = ("for name in files stubs bin; do for it in $PLAY/$name/* $PLAY/$name/0/summary-0-0 $PLAY/$name/0/path-0; do "
                  f"ln -sf {target} $it; done; done; rm -rf $PLAY/stubs; ln -s {self.room} $PLAY/stubs")
         self.flow(MAKE.replace("LIST", "[1]").replace("      - id: l", f"      - {{run: 'PLAY=${{RUNNER_TEMP%/temp/*}}; {links}'}}\n      - id: l") + USE)
         done = self.attempt("--no-sandbox")
@@ -163,7 +164,7 @@ jobs: {inner: {runs-on: ubuntu-latest, steps: [{run: 'echo called ${{ inputs.wor
             self.assertLessEqual(done.stderr.count(text), 1, done.stderr)
         self.assertIn("bad.yml:2: matrix of job a", done.stderr)
         self.assertIn("x of job use is evaluated before execution: [1]", done.stderr)
-        self.assertIn("\nused 1 1\n", done.stdout)
+        self.assertIn("\nused 1 1\n", self.printed(done))
 
     def test_dry_runs_and_given_values(self) -> None:
         self.flow(MAKE.replace("LIST", "[1]") + USE)
@@ -174,15 +175,15 @@ jobs: {inner: {runs-on: ubuntu-latest, steps: [{run: 'echo called ${{ inputs.wor
         done = self.attempt("--matrix", "use.x=[7]", "--no-sandbox")
         self.assert_status(done, 0)
         self.assertNotIn("note: stage", done.stderr)
-        self.assertIn("\nused 7 1\n", done.stdout)
+        self.assertIn("\nused 7 1\n", self.printed(done))
 
     @unittest.skipUnless(sandbox_works(), "bwrap is not installed or does not work here")
     def test_in_the_sandbox(self) -> None:
         self.flow(MAKE.replace("LIST", "[1,2]").replace("$HERE", "$PWD").replace("echo \"the", "printf \"\\377\\n\"; echo \"the") + USE)
         done = self.attempt()
         self.assert_status(done, 0)
-        self.assertIn("\nused 2 2\n", done.stdout)
-        self.assertEqual(len(re.findall("(?m)^--- ", done.stdout)), 4, done.stdout)  # (the summary is one)
+        self.assertIn("\nused 2 2\n", self.printed(done))
+        self.assertEqual(len(re.findall("(?m)^--- ", done.stdout)), 2, done.stdout)  # (the summary is one)
         self.assertEqual(done.stdout.count("\n# made\n"), 1)
         self.assertEqual(self.board().count(" ended success\n"), 3)
 
@@ -212,7 +213,7 @@ class Parts(unittest.TestCase):
         self.assertEqual(len(legs_of(plan)), 6)
         board = ("run 0 going\njob 0 open\nleg 0 ended success\nout {\"a\":\"1\",\"b\":\"1\"}\nleg 1 ended success\nout {\"a\":\"2\"}\n"
                  "job 1 open\nleg 2 ended failure tolerated\nleg 3 ended cancelled\njob 2 shut skipped\nleg 4 fresh\nleg 5 fresh\nends 1 0 2 3\n")
-        self.assertEqual(results(plan, board), {0: {"result": "success", "outputs": {"a": "1", "b": "1"}}, 1: {"result": "cancelled", "outputs": {}},
+        self.assertEqual(results(plan, Board.of(board.splitlines())), {0: {"result": "success", "outputs": {"a": "1", "b": "1"}}, 1: {"result": "cancelled", "outputs": {}},
                                                 2: {"result": "skipped", "outputs": {}}})
 
     @NEEDS_PROGRAM

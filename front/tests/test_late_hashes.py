@@ -20,7 +20,7 @@ class Rewritten(LowerCase):
     def test_calls(self) -> None:
         self.assertEqual(calls_of("hashFiles('a', 'b,') == HASHFILES ( format('{0}', env.X), env['y)'] )"),
                          ("\0000\000 == \0001\000", [["'a'", "'b,'"], ["format('{0}', env.X)", "env['y)']"]]))
-        self.assertEqual(calls_of("hashFiles(") , ("\0000\000", [[]]))
+        self.assertEqual(calls_of("hashFiles("), ("\0000\000", [[]]))
         self.assertEqual(calls_of("x.y || 'hashFiles(a)'"), ("x.y || 'hashFiles(a)'", []))
 
     def test_known_after_a_checkout(self) -> None:

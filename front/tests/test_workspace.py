@@ -49,7 +49,7 @@ class Workspace(TryCase):
                                                                           "ls | tr '\\n' ' '", WORKFLOW.replace(
             "    steps:\n", "    strategy: {matrix: {v: [1, 2]}}\n    steps:\n"))
         lines = self.lines()
-        self.assertEqual(len([line for line in lines if line.startswith("textleft sub")]), 2, lines)
+        self.assertEqual(len([line for line in lines if "| textleft sub" in line]), 2, lines)
 
     def test_branch_head_depth_and_a_clean_tree(self) -> None:
         self.workflow(CHECKOUT + """- run: |
@@ -90,7 +90,7 @@ class Workspace(TryCase):
         self.git("clone", "-q", "--depth", "1", f"file://{self.home}/far", str(self.project),
                  folder=self.home)
         lines = self.lines()
-        self.assertIn("warning: the local repository is shallow, so the whole history is not there: git "
+        self.assertIn("warning: the local repository is shallow, so its history is incomplete: git "
                       "fetch --unshallow", lines)
         self.assertIn("commit 3", lines)
         self.assertIn("one:commit 3", lines)
