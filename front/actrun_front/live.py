@@ -8,6 +8,7 @@ from __future__ import annotations
 
 import contextlib
 import errno
+import functools
 import marshal
 import os
 import re
@@ -22,14 +23,20 @@ from dataclasses import dataclass, field
 from typing import TYPE_CHECKING, Any, Callable, Iterator
 
 from . import Problem
-from .dap_logs import walk
+from .dap_logs import Masks, walk
+from .execute import program
 from .explain import near
-from .live_places import FAILED, Place, places_of, shown_steps
-from .live_prompt import Prompt, Stopped, as_table, check_input
+from .live_control import DESCRIPTOR, NAME, Control
+from .live_edit import Edit, changes
+from .live_look import looking
+from .live_places import FAILED, Known, Place, known_in, places_of, shown_steps, with_condition
+from .live_prompt import Prompt, Stopped, carry, check_input, on_terminal, write_all
+from .live_words import Words
 from .lower_containers import DOCKER
+from .prompt_words import CONTEXTS, EXPLAIN, finder, full_name, help_lines, history_file, printed
 from .relay import MOST, Relay, read_all, step_of
-from .toolchains import PYTHON
-from .visible import visible, visible_log
+from .values import syntax_fault
+from .visible import visible_log
 
 if TYPE_CHECKING:
     from .attempt import Trial
@@ -44,25 +51,62 @@ NONE = 2 ** 32 - 1      # the length of a file that a step cannot hand on
 ENDED = 130             # the status of a step that was ended at a prompt
 COMMANDS = {
     "shell": "open a shell in the leg's sandbox, with the folder, the variables and the PATH of the step",
-    "run": "execute the step; again as often as you want, the last time counts",
-    "env": "print the variables of the step",
-    "print NAME": "print one variable of the step",
-    "log": "print what the step has printed",
-    "script": "print the step's script",
-    "next": "go on, and stop before the next step of this leg",
-    "continue": "go on: with the last answer of the step, or by executing it",
+    "run (r)": "execute the step; again as often as you want, the last time counts",
+    "script, edit": "print the step's script; change it in $EDITOR for `run` and `continue`",
+    **EXPLAIN,
+    "files [PATH]": "list what this leg changed in its workspace since the step before; the difference of a file",
+    "cat PATH": "print a file of the leg's workspace",
+    "log [PATTERN], /TEXT": "print what the step printed; find a text in the logs of all steps that have ended",
+    "list (l), bt, info legs": "print the workflow's lines; step, job and run; the legs",
+    "break PLACE (b), tbreak PLACE": "stop there, always or once: failed, a step's name or id, a job,",
+    "break PLACE if EXPR": "  JOB/STEP, FILE:LINE; only where EXPR is true",
+    "watch EXPR (w)": "stop before a step of this leg where the value of an expression has changed",
+    "delete [N] (d), info breaks": "remove a break by its number or its text, or all; list them",
+    "next (n), until PLACE (u)": "go on, and stop before the next step of this leg; before a step, once",
+    "continue (c)": "go on: with the last answer of the step, or by executing it",
     "skip": "go on, as if the step had succeeded",
     "fail": "go on, as if the step had failed",
-    "quit": "end the execution, as Ctrl-C does elsewhere",
-    "help": "print these lines"}
-SHORT = {"c": "continue", "n": "next", "r": "run", "p": "print", "q": "quit", "h": "help"}
-# in the sandbox: takes the terminal that is its output as the terminal of a session
-WITH_TERMINAL = """\
-import fcntl, os, sys, termios
-fcntl.ioctl(1, termios.TIOCSCTTY, 0)
-os.dup2(1, 0)
-os.execv(sys.argv[1], sys.argv[1:])
-"""
+    "quit (q)": "end the execution, as Ctrl-C does elsewhere",
+    "help [WORD] (h)": "print these lines"}
+SHORT = {"c": "continue", "n": "next", "r": "run", "p": "print", "q": "quit", "h": "help", "b": "break",
+         "d": "delete", "l": "list", "i": "info", "w": "watch", "s": "next", "step": "next", "u": "until",
+         "finish": "continue", "where": "bt", "pp": "print"}
+# words of the prompt of `debug`
+OF_PAST = (
+    "back",
+    "rs",
+    "reverse-step",
+    "rn",
+    "reverse-next",
+    "rc",
+    "reverse-continue",
+    "goto",
+    "go",
+    "go-back",
+    "jump",
+    "j",
+    "frame",
+    "f",
+)
+# commands with an argument
+TAKES = {
+    "break",
+    "tbreak",
+    "watch",
+    "until",
+    "delete",
+    "info",
+    "print",
+    "why",
+    "explain",
+    "values",
+    "files",
+    "cat",
+    "log",
+    "list",
+    "search",
+    "help",
+}
 # a script that does something where the script of a step would begin; also where the prelude gives up
 ENTER = "exec 3>&1 >/dev/null\ntrap 'exec >&3 3>&-; {then}' EXIT\n. \"$ACTRUN_PRELUDE\"\nexit 0\n"
 LIST = r'printf "\0actrun\0"; command -p env -0'
@@ -123,23 +167,100 @@ class Output:
 
 
 @dataclass
+class Given:
+    """A break that was set: its number, its text, the steps before which it stops, and what has to be so."""
+
+    number: int
+    text: str
+    places: set[Place]
+    condition: str = ""
+    once: bool = False
+    watched: bool = False  # it stops where the value of the condition has changed
+    value: Any = None
+
+    def names(self) -> set[str]:
+        """How it can be named."""
+        return {str(self.number), self.text, self.text.partition(" if ")[0], self.condition}
+
+
+@dataclass
 class Breaks:
     """The breaks of one execution."""
 
     trial: Trial
-    before: set[Place]
-    failed: bool
+    given: list[Given]
     prompt: Prompt
     broker: Broker | None = None
+    count: int = 0                                           # of the breaks that were set
+    edits: list[Edit] = field(default_factory=list)          # of scripts, by hand
     next: set[int] = field(default_factory=set)              # legs that stop before their next step
     spent: dict[int, float] = field(default_factory=dict)    # leg -> seconds in breaks that are over
     since: dict[int, float] = field(default_factory=dict)    # leg -> when the break began that it is in
     by_hand: list[str] = field(default_factory=list)         # what a person did, in sentences
+    sets: dict[Any, tuple[set[Place], bool]] = field(default_factory=dict)  # breaks of clients of the control
     one: threading.Lock = field(default_factory=threading.Lock)
+
+    @functools.cached_property
+    def known(self) -> Known:
+        """All that may be named."""
+        return known_in(self.trial)
+
+    def add(self, text: str, once: bool = False) -> Given:
+        """Sets a break. Raises Problem if its text names no step."""
+        name, condition = with_condition(self.known, text)
+        places = places_of(self.known, [name])
+        fault = syntax_fault(program(), condition) if condition else ""
+        if fault:
+            raise Problem(f"--break {text}: {fault}")
+        known = next((one for one in self.given if one.text == text), None)
+        return known or self.given_one(text, places, condition, once)
+
+    def given_one(self, *given: Any, **more: Any) -> Given:
+        """A new break, with the next number."""
+        self.count += 1
+        self.given.append(Given(self.count, *given, **more))
+        return self.given[-1]
+
+    def watch(self, expression: str, place: Place, value: Any) -> Given:
+        """Watches a value in the later steps of a leg. Raises Problem if it cannot be read."""
+        fault = syntax_fault(program(), expression)
+        if fault:
+            raise Problem(f"{expression}: {fault}")
+        leg, step = place
+        places = {(leg, later) for later in shown_steps(self.trial, self.trial.legs[leg]) if later > step}
+        return self.given_one(f"watch {expression}", places, expression, watched=True, value=value)
+
+    def remove(self, text: str) -> bool:
+        """Removes a break by its number or its text, or all of them; whether there was one."""
+        found = [one for one in self.given if not text or text in one.names()]
+        self.given = [one for one in self.given if one not in found]
+        return bool(found)
+
+    def set_by(self, client: Any, before: set[Place], failed: bool) -> None:
+        """Takes all breaks of a client of the control."""
+        self.sets = {**self.sets, client: (before, failed)}
+
+    def commands(self) -> list[str]:
+        """The first words of the lines of the prompt."""
+        return [name[3:] for name in dir(Visit) if name.startswith("do_") and name != "do_search"]
+
+    @property
+    def control(self) -> Control:
+        """Where clients stop legs."""
+        found: Control = self.trial.stages.control
+        return found
+
+    @property
+    def failed(self) -> bool:
+        """Whether steps stop that failed."""
+        return any(one.text == FAILED for one in self.given) or any(
+            failed for _, failed in self.sets.values()
+        )
 
     def wants(self, leg: int) -> bool:
         """Whether steps of a leg come here."""
-        return self.failed or leg in self.next or any(place[0] == leg for place in self.before)
+        sets = [*(one.places for one in self.given), *(places for places, _ in self.sets.values())]
+        return self.failed or leg in self.next or any(leg == place[0] for places in sets for place in places)
 
     def held(self, leg: int) -> float:
         """The seconds for which a leg has waited in breaks."""
@@ -151,16 +272,21 @@ class Breaks:
         board, trial = self.trial.board, self.trial
         return not trial.execution.signals and place not in board.quiet and not board.ender.cause(*place)
 
-    def stops_before(self, place: Place) -> bool:
-        """Whether a step stops before it executes."""
+    def stops_before(self, place: Place, holds: Callable[[Given], bool]) -> str:
+        """Why a step stops before it executes: `given` by a text, `break` of a client, or `step`, which was
+        asked for; nothing where it does not. `holds` says whether a break at the step holds."""
         if not self.is_free(place):
-            return False
+            return ""
         by_next = place[0] in self.next and place[1] in shown_steps(self.trial, self.trial.legs[place[0]])
         self.next -= {place[0]} if by_next else set()
-        return by_next or place in self.before
+        hit = [one for one in self.given if place in one.places and holds(one)]
+        self.given = [one for one in self.given if not one.once or one not in hit]
+        is_set = any(place in places for places, _ in self.sets.values())
+        return "given" if hit else "break" if is_set else "step" if by_next else ""
 
     def take(self, leg: int, connection: socket.socket, output: int, reader: int) -> None:
-        """Executes the step of a connection in a thread. It prints into `output`, which is read from `reader`."""
+        """Executes the step of a connection in a thread. It prints into `output`, which is read from
+        `reader`."""
         os.close(reader)  # (what the step leaves running prints elsewhere)
         threading.Thread(target=self.step, args=(leg, connection, output), daemon=True).start()
 
@@ -179,18 +305,12 @@ class Breaks:
 
     def begin(self, leg: int, data: bytes, writer: int) -> socket.socket:
         """Has a request executed, which prints into a descriptor; gives the connection with the answer."""
-        ours, theirs = socket.socketpair()
         relay = self.broker.relays.get(leg) if self.broker else None
+        if self.broker and not relay:
+            return self.broker.begin(leg, data, writer)
+        ours, theirs = socket.socketpair()
         if relay:
             relay.take(theirs, writer, os.open(os.devnull, os.O_RDONLY))  # (the rest is read here)
-        elif self.broker:
-            try:
-                made = self.broker.leg(leg)
-                made.idle = None
-                socket.send_fds(made.agent, [b"s"], [theirs.fileno(), writer])
-            finally:
-                theirs.close()
-                os.close(writer)
         ours.sendall(len(data).to_bytes(8, "little") + data)
         return ours
 
@@ -201,7 +321,7 @@ class Breaks:
     def close(self) -> None:
         """Gives the terminal back, and keeps what was done by hand."""
         self.prompt.close()
-        self.trial.stages.by_hand += self.by_hand
+        self.trial.stages.by_hand += [*self.by_hand, *changes(self.trial, self.edits)]
 
     def quit(self) -> None:
         """Ends the execution as Ctrl-C does."""
@@ -209,30 +329,36 @@ class Breaks:
 
 
 def breaks_of(trial: Trial) -> Breaks | None:
-    """The breaks of an execution; None without --break. Raises Problem where one cannot be."""
+    """The breaks of an execution, which a client may set, too; None without a sandbox. Raises Problem where
+    one cannot be."""
     given = trial.options.breaks
-    if not given:
-        return None
     if trial.options.no_sandbox:
-        raise Problem(f"--break {given[0]}: a break needs the sandbox: leave --no-sandbox out")
+        if given or DESCRIPTOR in os.environ:
+            what = f"--break {given[0]}" if given else "an execution in an editor"
+            raise Problem(f"{what}: a break needs the sandbox: leave --no-sandbox out")
+        return None
     stages, waits = trial.stages, any(flow.lowered.late for flow in trial.flows)
-    before: set[Place] = set()
+    stages.control = stages.control or Control(trial.room.private / NAME).open()
+    asks = bool(given) and not stages.control.launched
+    # (which may have read more than its commands)
+    stages.prompt = stages.prompt or Prompt(trial.screen, asks)
+    stages.prompt.history = history_file()
+    found = Breaks(trial, [], stages.prompt)
     for text in given:
         try:
-            before |= places_of(trial, [text])
+            found.add(text)
         except Problem as problem:
             if stages.count and not waits:
                 trial.screen.tell(f"note: {problem}", "note")
             elif not waits:
                 raise
-    if not stages.count:
+    if asks and not stages.count:
         check_input(f"--break {given[0]}")
-    stages.prompt = stages.prompt or Prompt(trial.screen)  # (which may have read more than its commands)
-    return Breaks(trial, before, FAILED in given, stages.prompt)
+    return found
 
 
 @dataclass
-class Visit:
+class Visit(Words):
     """One step of a leg with breaks."""
 
     breaks: Breaks
@@ -253,6 +379,9 @@ class Visit:
     shells: int = 0
     rest: bytes = b""                   # of a line that is not shown yet
     current: socket.socket | None = None  # of the request that is being executed
+    old: str | None = None              # the script, before a person changed it
+    paths: list[str] | None = None      # lines that print values, for completion
+    title: str = ""                     # leg and step in words
 
     @classmethod
     def of(cls, breaks: Breaks, leg: int, connection: socket.socket, output: int) -> Visit:
@@ -266,17 +395,19 @@ class Visit:
         self.prompt, self.board = self.breaks.prompt, self.breaks.trial.board
         self.title = self.board.title(self.leg, self.step)
         self.mark = self.board.mark.encode()
-        self.masks: Any = None
+        self.masks: Masks | None = None
+        self.changes: list[str] = []  # of values that are watched
 
     def execute(self) -> None:
         """Executes the step, with its breaks, and answers."""
         place = self.leg, self.step
-        if self.breaks.stops_before(place):
-            self.stop("before")
+        why = self.breaks.stops_before(place, self.holds)
+        if why:
+            self.stop("before", why)
         if self.answer is None:
             self.answer = self.attempt()
             if self.answer.status and self.breaks.failed and not self.ended and self.breaks.is_free(place):
-                self.stop(f"failed, {self.answer.words()}")
+                self.stop(f"failed, {self.answer.words()}", "failed")
         if not self.marked:
             head = self.mark + f":{self.leg}-{self.step}\n".encode()
             self.print_all(head + b"(not executed: answered by hand)\n")
@@ -295,7 +426,7 @@ class Visit:
         return marshal.dumps((words or self.words, variables, files, self.handed, self.folder))
 
     def read_answer(self, ours: socket.socket) -> Answer:
-        """The answer of the agent. Raises EOFError where the sandbox has ended."""
+        """The answer of the agent. Raises EOFError if the sandbox has ended."""
         head = read_all(ours, 4 + 4 * len(self.handed))
         left: list[bytes | None] = []
         for at in range(4, len(head), 4):
@@ -324,7 +455,7 @@ class Visit:
             threading.Thread(target=drop, args=(reader,), daemon=True).start()
 
     def carry(self, ours: socket.socket, reader: int, take: Callable[[bytes], Any]) -> None:
-        """Carries output and signals until the agent answers. Raises EOFError where the shim has ended."""
+        """Carries output and signals until the agent answers. Raises EOFError if the shim has ended."""
         waits = [ours, self.connection, reader]
         while True:
             ready = select.select(waits, [], [])[0]
@@ -349,7 +480,7 @@ class Visit:
             if show:
                 self.show(data)
         output = Output(self.mark, self.print_all, text, self.marked)
-        summary = self.folder + f"/files/summary-{self.leg}-{self.step}".encode()
+        summary = self.folder + f"/files/{self.leg}/summary-{self.leg}-{self.step}".encode()
         again = {summary: b""} if self.marked and not self.breaks.relay(self.leg) else {}
         self.marked = True
         answer = self.perform(self.request(texts=again), output.take)
@@ -366,11 +497,12 @@ class Visit:
 
     # the prompt
 
-    def stop(self, why: str) -> None:
+    def stop(self, why: str, kind: str) -> None:
         """Asks how the step goes on, until it has an answer or is to be executed."""
         self.breaks.since[self.leg], self.again = time.monotonic(), self.marked
+        self.breaks.next.discard(self.leg)  # (it has stopped)
         try:
-            with self.turn():
+            with self.turn(), self.breaks.control.visited(self, kind):
                 self.head(why)
                 while self.ask():
                     pass
@@ -396,7 +528,7 @@ class Visit:
             self.breaks.one.release()
 
     def take_end(self) -> None:
-        """Answers that the step was ended, unless it was not, as one with `always()`. Raises EOFError where the
+        """Answers that the step was ended, unless it was not, as one with `always()`. Raises EOFError if the
         shim has ended."""
         until, ender = time.monotonic() + WITHIN, self.board.ender
         while time.monotonic() < until:
@@ -418,41 +550,52 @@ class Visit:
         place = trial.place(leg.run, leg.job["id"], self.step)
         told = f"before {self.title}" if why == "before" else f"{self.title} {why}"
         self.tell(f"\nbreak: {told}{f'  [{place}]' if place else ''}")
+        self.tell_all(self.changes)
         if self.kept:
             self.show_kept(SHOWN)
-        self.tell("`help` lists the commands")
-
-    def tell(self, text: str) -> None:
-        """Shows a line."""
-        self.prompt.write(visible(text) + "\n")
+        if self.prompt.asks:
+            self.tell("`help` lists the commands")
 
     def ask(self) -> bool:
         """Carries out one command; false where the leg goes on."""
         if not self.breaks.is_free((self.leg, self.step)):
             raise Stopped
-        line = self.prompt.read(self.connection)
-        name, _, rest = (line if line is not None else "continue").partition(" ")
-        name, rest = SHORT.get(name, name), rest.strip()
-        known = [command.partition(" ")[0] for command in COMMANDS]
+        line = self.prompt.read(self.connection, self.lines)
+        with self.prompt.answered():
+            return self.carry_out(line)
+
+    def carry_out(self, line: str | None) -> bool:
+        """Carries out a line; false where the leg goes on."""
+        line = line if line is not None else "continue"
+        name, _, rest = f"search {line[1:]}".partition(" ") if line.startswith("/") else line.partition(" ")
+        known = self.breaks.commands()
+        name, rest = SHORT.get(name) or full_name(name, known), rest.strip()
         if not name:
             return True
-        if name not in known:
+        if name in OF_PAST:
+            self.tell(f"{name}: an execution goes forward: in another terminal, "
+                      f"`actrun debug {self.breaks.trial.part}` walks what has happened")
+            return True
+        if name not in (*known, "search"):
             self.tell(f"{name}: there is no such command{near(name, known)}; `help` lists them")
             return True
-        if rest and name != "print":
+        if rest and name not in TAKES:
             self.tell(f"{name} takes no argument")
             return True
         try:
-            return bool(getattr(self, f"do_{name}")(*([rest] if name == "print" else [])))
+            return bool(getattr(self, f"do_{name}")(*([rest] if name in TAKES else [])))
+        except Problem as problem:
+            self.tell(self.hidden(str(problem).replace("--break ", f"{name} ")))
+            return True
         except OSError as error:
             if error.errno in (errno.EPIPE, errno.ECONNRESET):
                 raise
             self.tell(f"{name}: {error.strerror or error}")
             return True
 
-    def do_help(self) -> bool:
-        """Lists the commands."""
-        self.prompt.write(as_table(COMMANDS))
+    def do_help(self, word: str) -> bool:
+        """Lists the commands, or those that a word names."""
+        self.prompt.write(help_lines(COMMANDS, SHORT.get(word, word)))
         return True
 
     def do_continue(self) -> bool:
@@ -463,6 +606,13 @@ class Visit:
         """Lets the leg go on to the next step."""
         self.breaks.next.add(self.leg)
         return False
+
+    def do_until(self, text: str) -> bool:
+        """Lets the leg go on to a step, or to the next one."""
+        if text:
+            self.breaks.add(" ".join(text.split()), True)
+            return False
+        return self.do_next()
 
     def do_skip(self) -> bool:
         """Answers success."""
@@ -517,9 +667,9 @@ class Visit:
             self.tell(self.hidden(text.decode("utf-8", "replace").rstrip("\n")))
         return True
 
-    def do_log(self) -> bool:
-        """Shows what the step printed."""
-        self.show_kept()
+    def do_log(self, pattern: str) -> bool:
+        """Shows what the step printed, or its lines with a pattern."""
+        self.show_kept(fits=finder(pattern) if pattern else None)
         return True
 
     def do_env(self) -> bool:
@@ -529,16 +679,20 @@ class Visit:
                 self.tell(self.hidden(f"{name}={value}"))
         return True
 
-    def do_print(self, name: str) -> bool:
-        """Shows one variable of the step."""
-        found = self.listed()
-        name = name.removeprefix("$").removeprefix("env.")
+    def do_print(self, text: str) -> bool:
+        """Shows the value of an expression, or of a variable of the step."""
+        name = text.removeprefix("$").removeprefix("env.")
+        found = self.listed() if re.fullmatch(r"\w+", name) else {}
         if name in found:
             self.tell(self.hidden(found[name]))
-        elif name:
+        elif found and text.isidentifier() and not near(name, CONTEXTS):
             self.tell(f"{name}: there is no such variable{near(name, found)}")
+        elif not text:
+            self.tell("print: write an expression or a variable, as `print PATH` or `print matrix.os`")
         else:
-            self.tell("print: name a variable, as `print PATH`")
+            with looking(self.breaks.trial, self.hides()) as explainer:
+                around = explainer.around(explainer.record.last, self.frame())
+                self.tell_all(printed(around, text, explainer.masks))
         return True
 
     def listed(self) -> dict[str, str]:
@@ -568,8 +722,12 @@ class Visit:
                 f"{relay.engine.name} exec --interactive --tty {relay.container} sh" if relay.container
                 else "they are started by the first step: `run` it, or `next`"))
             return True
+        terminal = self.prompt.terminal()
+        if terminal is None and self.prompt.command:
+            self.tell("shell: an editor has to open a terminal for it")
+            return True
         self.shells += 1
-        answer = self.on_terminal() if self.prompt.is_terminal else self.on_lines()
+        answer = self.on_lines() if terminal is None else self.on_terminal(terminal)
         if self.ended:
             raise Stopped
         self.left = [part or b"" for part in answer.left]
@@ -593,7 +751,7 @@ class Visit:
         self.show(b"\n" if self.rest else b"")
         return answer
 
-    def on_terminal(self) -> Answer:
+    def on_terminal(self, terminal: int) -> Answer:
         """A shell on a terminal of its own, to which that of the person is carried."""
         sign = re.sub(r"[^\w. ()/-]", "", self.title.partition(":")[0])[:40]
         name = shlex.quote(f"({sign}) ")
@@ -601,23 +759,16 @@ class Visit:
         master, slave = os.openpty()
         self.tell("(a shell in the sandbox of the leg; `exit` or Ctrl-D comes back)")
         try:
-            words = [os.fsencode(PYTHON), b"-ISB", b"-c", WITH_TERMINAL.encode(), *words]
-            data = self.request(words, self.files())
+            data = self.request(on_terminal(words), self.files())
             with self.breaks.begin(self.leg, data, slave) as ours:
-                self.prompt.on_interrupt = lambda: os.write(master, b"\x03") and None
-                self.prompt.carry(master, ours, self.connection)
+                self.prompt.on_interrupt = functools.partial(write_all, master, b"\x03")
+                carry(terminal, master, ours, self.connection)
                 return self.read_answer(ours)
         finally:
             self.prompt.on_interrupt = None
             os.close(master)
 
     # what is shown
-
-    def hidden(self, text: str) -> str:
-        """A text without secrets."""
-        if self.masks is None:
-            self.masks = self.board.masks.until(self.leg, self.step)
-        return self.masks.hide(text)
 
     def show(self, data: bytes) -> None:
         """Shows whole lines of the step."""
@@ -630,19 +781,19 @@ class Visit:
     def show_line(self, data: bytes) -> None:
         """Shows a line of the step, as a log has it."""
         screen = self.prompt.screen
-        self.hidden("")
         for shown, mask in walk([data.decode("utf-8", "replace")]):
-            self.masks.add([mask] if mask else [])
+            self.hides().add([mask] if mask else [])
             if shown is not None:
-                self.prompt.write(visible_log(self.masks.hide(shown), screen.coloured(sys.stderr)) + "\n")
+                self.prompt.write(visible_log(self.hidden(shown), screen.coloured(sys.stderr)) + "\n")
 
-    def show_kept(self, most: int = 0) -> None:
-        """Shows the last lines of what the step printed, or all that is kept."""
+    def show_kept(self, most: int = 0, fits: Callable[[str], object] | None = None) -> None:
+        """Shows the last lines of what the step printed, or all that is kept, or the lines that fit."""
         lines = self.kept.rstrip(b"\n").split(b"\n") if self.kept else []
         if most and len(lines) > most:
             self.tell(f"(the last {most} lines; `log` shows all)")
         for line in lines[-most:]:
-            self.show_line(line)
+            if not fits or fits(line.decode("utf-8", "replace")):
+                self.show_line(line)
         if not lines:
             self.tell("the step has printed nothing")
 
@@ -656,7 +807,7 @@ class Visit:
 
 
 def read_some(reader: int) -> bytes | None:
-    """What a pipe has; None where there is nothing yet."""
+    """What a pipe has; None if there is nothing yet."""
     try:
         return os.read(reader, 1 << 16)
     except BlockingIOError:

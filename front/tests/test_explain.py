@@ -142,25 +142,25 @@ class Explain(unittest.TestCase):
 
     def test_contexts_and_stubs(self) -> None:
         words = explain("actrun: flow c.json WrongShape", "plan", ["--contexts", "c.json", "ok.json"])
-        self.assertIn("c.json: this is no JSON object", words)
+        self.assertIn("c.json: this is not a JSON object", words)
         for text, place in (('{"github":\n {"a" 1}}', ":2:7"), ("[" * 9999, ""), ('{"github": 1.5}', "")):
             self.write("c.json", text)
             words = explain("actrun: flow c.json NotJson", "plan", ["--contexts", "c.json", "ok.json"])
-            self.assertTrue(words.startswith(f"c.json{place}: this is no JSON object"), words)
+            self.assertTrue(words.startswith(f"c.json{place}: this is not a JSON object"), words)
 
     def test_the_file_that_cannot_be_opened(self) -> None:
         self.write("here.plan", "{}")
         os.mkdir("folder")
         for command, arguments, expected in (
-                ("plan", ["ok.json", "ok.jsn"], "ok.jsn is not there; did you mean ok.json?"),
-                ("plan", ["--contexts", "none", "ok.jsn"], "none is not there"),
-                ("why", ["none/x.record", "leg", "0"], "the folder none of x.record is not there"),
-                ("run", ["folder"], "folder is a folder"),
-                ("run", ["--work", "none", "--record", "none/r", "here.plan"], "the folder none of the record is not there: mkdir -p it"),
-                ("run", ["--work", "", "here.plan"], "--work '' names no folder: write one"),
+                ("plan", ["ok.json", "ok.jsn"], "ok.jsn does not exist; did you mean ok.json?"),
+                ("plan", ["--contexts", "none", "ok.jsn"], "none does not exist"),
+                ("why", ["none/x.record", "leg", "0"], "the directory none of x.record does not exist"),
+                ("run", ["folder"], "folder is a directory"),
+                ("run", ["--work", "none", "--record", "none/r", "here.plan"], "the directory none of the record does not exist: mkdir -p it"),
+                ("run", ["--work", "", "here.plan"], "--work '' names no directory: write one"),
                 ("run", ["--stubs", "", "here.plan"], "the name of a file is empty"),
-                ("run", ["--record", "none/r", "here.plan"], "the folder none of the record is not there: mkdir -p it"),
-                ("run", ["--record", "folder", "here.plan"], "the record folder is a folder: name a file in it"),
+                ("run", ["--record", "none/r", "here.plan"], "the directory none of the record does not exist: mkdir -p it"),
+                ("run", ["--record", "folder", "here.plan"], "the record folder is a directory: name a file in it"),
                 ("run", ["--record", "/proc/r", "here.plan"], "all files that are named can be opened"),
                 ("list", ["ok.json"], "is the disk full"), ("table", [], "is the disk full")):
             words = explain("actrun: io", command, arguments)
@@ -177,7 +177,7 @@ class Explain(unittest.TestCase):
             self.write("status", status)
             self.write("folder.part", part)
             reason, _, kept = explain("actrun: io", "run", ["--record", "folder", "here.plan"]).partition("\n")
-            self.assertEqual((reason, kept[:len(expected) or None]), ("the record folder is a folder: name a file in it", expected))
+            self.assertEqual((reason, kept[:len(expected) or None]), ("the record folder is a directory: name a file in it", expected))
 
     def test_a_pipe_is_not_waited_for(self) -> None:
         os.mkfifo("pipe")
@@ -226,7 +226,7 @@ class Explain(unittest.TestCase):
 
     def test_the_command_explains_the_last_line_on_standard_error(self) -> None:
         self.write("err", "leg 0 (a) step 0 of 1 started: x\nactrun: pool Workers\n")
-        command = [sys.executable, str(TOP / "front"), "explain", "2", "err", "run", "--workers", "40", "p"]
+        command = [sys.executable, str(TOP / "front"), "explain-error", "2", "err", "run", "--workers", "40", "p"]
         done = subprocess.run(command, capture_output=True, text=True, check=False)
         self.assertEqual((done.returncode, done.stdout, done.stderr), (0, "", "  --workers takes 1 to 16, not 40\n"))
         self.write("err", "nothing of ours\n")

@@ -117,7 +117,7 @@ class Pipe(LiveCase):
         self.write(".github/workflows/called.yml", called)
         head = WORKFLOW.replace("jobs:\n", "jobs:\n  call:\n    uses: ./.github/workflows/called.yml\n")
         self.workflow("- name: greet\n  uses: ./act", head=head)
-        places = [(place, "one: inner") for place in ("greet", "one/greet", "./act", "inner")]
+        places = [(place, "one: greet (./act) / inner") for place in ("greet", "one/greet", "./act", "inner")]
         places.append(("call", "call / one: echo deep"))
         for number, (place, step) in enumerate(places):
             done = self.at_pipe("c", words=("--break", place, "--keep", str(self.room / f"kept-{number}")))
@@ -298,7 +298,9 @@ class Terminal(LiveCase):
         self.workflow("- name: a\n  run: |\n    echo started\n    sleep 600")
         person = self.person("--break", "a")
         person.until(r"\(break\) $")
-        person.type("qui\x03")
+        person.type("qui")
+        person.until("qui")                     # (the line is being read)
+        person.type("\x03")
         person.at("run")
         person.until("started\n")
         person.type("\x03")
