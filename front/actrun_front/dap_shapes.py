@@ -7,34 +7,53 @@ FLAG, NUMBER = "has to be true or false", "has to be a whole number"
 TEXT, LIST = "has to be a text", "has to be a list"
 SOURCE = {"path": TEXT}
 THREAD = {"threadId": NUMBER, "granularity": TEXT}
+WHEN = {"condition": TEXT, "hitCondition": TEXT, "logMessage": TEXT}
 MOVES = ("pause", "next", "stepBack", "stepIn", "stepOut", "exceptionInfo", "continue", "reverseContinue")
-# by requests: the kind of each argument. A list has one member, the kind of all its own ones; a name with `!` behind it
+# by requests: the kind of each argument. A list has one member, the kind of all its own ones; a name with `!`
+# behind it
 # has to be there
 SHAPES: dict[str, dict[str, Any]] = {
-    "initialize": {"linesStartAt1": FLAG},
-    "launch": {"record": TEXT, "cwd": TEXT, "workflows": [TEXT], "logs": TEXT, "stopOnEntry": FLAG},
-    "setBreakpoints": {"source": SOURCE, "breakpoints": [{"line!": NUMBER}], "lines": [NUMBER]},
+    "initialize": {"linesStartAt1": FLAG, "columnsStartAt1": FLAG, "supportsRunInTerminalRequest": FLAG},
+    "launch": {
+        "record": TEXT,
+        "cwd": TEXT,
+        "workflows": [TEXT],
+        "logs": TEXT,
+        "stopOnEntry": FLAG,
+        "live": FLAG,
+        "noDebug": FLAG,
+        "program": TEXT,
+        "event": TEXT,
+        "job": TEXT,
+        "options": [TEXT],
+    },
+    "attach": {"folder": TEXT, "cwd": TEXT},
+    "disconnect": {"terminateDebuggee": FLAG},
+    "setBreakpoints": {"source": SOURCE, "breakpoints": [{"line!": NUMBER, **WHEN}], "lines": [NUMBER]},
+    "setFunctionBreakpoints": {"breakpoints!": [{"name": TEXT, **WHEN}]},
     "setExceptionBreakpoints": {"filters": [TEXT], "filterOptions": [{"filterId!": TEXT}]},
     "dataBreakpointInfo": {"variablesReference": NUMBER, "name": TEXT},
-    "setDataBreakpoints": {"breakpoints!": [{"dataId": TEXT}]},
+    "setDataBreakpoints": {"breakpoints!": [{"dataId": TEXT, **WHEN}]},
     **dict.fromkeys(MOVES, THREAD),
     "stackTrace": {"threadId": NUMBER, "startFrame": NUMBER, "levels": NUMBER},
     "gotoTargets": {"source": SOURCE, "line!": NUMBER},
     "goto": {"threadId": NUMBER, "targetId": NUMBER},
+    "restartFrame": {"frameId": NUMBER},
     "scopes": {"frameId": NUMBER},
+    "completions": {"frameId": NUMBER, "text": TEXT, "column!": NUMBER},
     "variables": {"variablesReference": NUMBER, "start": NUMBER, "count": NUMBER},
     "evaluate": {"expression": TEXT, "frameId": NUMBER, "context": TEXT},
 }
 MOST = 1 << 53
 
 
-def misshapen(command: str, given: dict) -> str:
-    """What is wrong with the arguments of a request; nothing where all have their kinds."""
+def misshapen(command: str, given: dict[str, Any]) -> str:
+    """What is wrong with the arguments of a request; nothing if all have their kinds."""
     return misfit(SHAPES.get(command, {}), given, "")
 
 
 def misfit(kind: Any, value: Any, name: str) -> str:
-    """What is wrong with a value, whose place has a name; nothing where it is of its kind."""
+    """What is wrong with a value, whose place has a name; nothing if it is of its kind."""
     if isinstance(kind, dict):
         return inside(kind, value, name) if isinstance(value, dict) else f"`{name}` has to be an object"
     if isinstance(kind, list):
@@ -46,7 +65,7 @@ def misfit(kind: Any, value: Any, name: str) -> str:
     return "" if fits[kind] else f"`{name}` {kind}"
 
 
-def inside(kinds: dict[str, Any], value: dict, name: str) -> str:
+def inside(kinds: dict[str, Any], value: dict[str, Any], name: str) -> str:
     """What is wrong with the members of an object."""
     for key, kind in kinds.items():
         member = key.rstrip("!")

@@ -17,11 +17,14 @@ class LostStream(Exception):
     """No message can be read from the stream any more."""
 
 
-def read_message(stream: BinaryIO) -> dict | None:
+def read_message(stream: BinaryIO) -> dict[str, Any] | None:
     """The next message, or None where the client has gone. Raises BadMessage or LostStream."""
     length = read_length(stream)
-    body = stream.read(length) if length is not None else b""
-    if length is None or len(body) < length:
+    body = b""
+    while length is not None and len(body) < length:
+        part = stream.read(length - len(body))  # (which may be less)
+        length, body = length if part else None, body + part
+    if length is None:
         return None
     try:
         message = json.loads(body.decode("utf-8"))

@@ -34,11 +34,15 @@ def surroundings() -> dict[str, str]:
 class Client:
     """One server and the messages that it sent."""
 
-    def __init__(self) -> None:
-        self.process = subprocess.Popen(COMMAND, stdin=subprocess.PIPE, stdout=subprocess.PIPE, stderr=subprocess.PIPE, env=surroundings())
+    def __init__(self, given: dict[str, str] | None = None, folder: Path | None = None) -> None:
+        self.process = subprocess.Popen(COMMAND, stdin=subprocess.PIPE, stdout=subprocess.PIPE,
+                                        stderr=subprocess.PIPE, cwd=folder,
+                                        env=surroundings() if given is None else given)
         self.sequence, self.events, self.all = 0, [], b""
+        self.requests: list[dict[str, Any]] = []  # of the server
         self.messages: queue.Queue[Any] = queue.Queue()
-        threading.Thread(target=self.read, daemon=True).start()
+        self.reader = threading.Thread(target=self.read, daemon=True)
+        self.reader.start()
 
     def read(self) -> None:
         """Hands on each message; None at the end."""
@@ -64,7 +68,28 @@ class Client:
         self.send_bytes(b"Content-Length: %d\r\n\r\n" % len(body) + body)
 
     def next(self) -> Any:
-        return self.messages.get(timeout=DEADLINE)
+        """The next message that is no request."""
+        message = self.messages.get(timeout=DEADLINE)
+        while message is not None and message["type"] == "request":
+            self.requests.append(message)
+            message = self.messages.get(timeout=DEADLINE)
+        return message
+
+    def request(self) -> dict[str, Any]:
+        """The next request of the server; events before it are kept."""
+        while not self.requests:
+            message = self.messages.get(timeout=DEADLINE)
+            if message is None:
+                raise EOFError("the server ended without a request")
+            (self.requests if message["type"] == "request" else self.events).append(message)
+        return self.requests.pop(0)
+
+    def reply(self, request: dict[str, Any], **more: Any) -> None:
+        """Answers a request of the server."""
+        self.sequence += 1
+        body = json.dumps({"seq": self.sequence, "type": "response", "request_seq": request["seq"],
+                           "command": request["command"], "success": True, **more}).encode()
+        self.send_bytes(b"Content-Length: %d\r\n\r\n" % len(body) + body)
 
     def response(self) -> dict:
         """The next response; events before it are kept."""
@@ -127,6 +152,7 @@ class Client:
     def close(self) -> None:
         self.process.kill()
         self.process.wait()
+        self.reader.join(DEADLINE)
         for stream in (self.process.stdin, self.process.stdout, self.process.stderr):
             try:
                 stream.close()

@@ -9,7 +9,7 @@ import time
 import unittest
 from pathlib import Path
 
-from actrun_front.dap import FILTERS
+from actrun_front.dap_session import FILTERS
 from actrun_front.dap_record import Record, Walker
 
 from .dap_case import COMMAND, DEADLINE, EXAMPLES, NEEDS_PROGRAM, PROGRAM, Client, DapCase, surroundings
@@ -80,7 +80,10 @@ class Orders(DapCase):
         self.assertEqual([one["default"] for one in body["exceptionBreakpointFilters"]], [True, False, False, False])
         for name in ("StepBack", "EvaluateForHovers", "GotoTargetsRequest", "ConfigurationDoneRequest", "TerminateRequest"):
             self.assertIs(body["supports" + name], True)
-        self.assertNotIn("supportsConditionalBreakpoints", body)
+        for name in ("ConditionalBreakpoints", "HitConditionalBreakpoints", "FunctionBreakpoints",
+                     "LogPoints", "CompletionsRequest",
+                     "LoadedSourcesRequest", "RestartRequest", "RestartFrame"):
+            self.assertIs(body["supports" + name], True)
 
     def test_each_early_request_is_refused_and_the_session_goes_on(self) -> None:
         client = self.client()
@@ -102,7 +105,7 @@ class Orders(DapCase):
 
     def test_unknown_requests_and_wrong_arguments_are_refused(self) -> None:
         client = self.at_entry(EXAMPLES / "p1.record")
-        for command in ("attach", "restart", "x", "", "__init__", None, 7, ["next"]):
+        for command in ("x", "", "__init__", "_launch", None, 7, ["next"]):
             self.assertIn("does not know the request", client.refused(command, {}))
         for command, given, words in [
                 ("next", [], "the arguments have to be an object"), ("next", {}, "there is no thread None"),
@@ -132,7 +135,7 @@ class Orders(DapCase):
                 ({"record": str(self.room / "pipe")}, "there is no such file"), ({"record": "a\0b"}, "`record` has to be a text"),
                 ({"record": str(EXAMPLES / "refused.record")}, "line 2 WrongState: "),
                 ({"record": str(EXAMPLES / "cut.record")}, "cut.record > RECORD"),
-                ({"record": str(EXAMPLES / "ci.json")}, "ci.json: its first line is no JSON"),
+                ({"record": str(EXAMPLES / "ci.json")}, "ci.json: its first line is not JSON"),
                 ({"record": str(EXAMPLES / "p1.record"), "workflows": "ci.yml"}, "`workflows` has to be a list"),
                 ({"record": str(EXAMPLES / "p1.record"), "workflows": ["/nowhere/ci.yml"]}, "/nowhere/ci.yml: No such file"),
                 ({"record": str(EXAMPLES / "p1.record"), "logs": "/nowhere"}, "/nowhere: there is no such folder")]:
@@ -173,7 +176,7 @@ class Story(DapCase):
         self.assertIn("--- step 1 (browser tests) of leg 2 (test, suite browser)\nerror: no browser is installed\n", shown)
         self.assertIn("failed at place 22 of 31: step 1 (browser tests) of leg 2 (test, suite browser): failure\n", shown)
         self.assertEqual([one["name"] for one in client.ask("threads")["threads"]],
-                         ["leg 0 (build)", "leg 1 (test, suite unit)", "leg 2 (test, suite browser)", "leg 3 (deploy)", "leg 4 (report)"])
+                         ["leg 2 (test, suite browser)"])
         stack = client.ask("stackTrace", threadId=3)
         self.assertEqual([(one["name"], one["line"], one["source"]["path"]) for one in stack["stackFrames"]], [
             ("step 1 (browser tests): failure", 21, self.yaml),
@@ -376,15 +379,14 @@ class Variables(DapCase):
         self.assertEqual((variables["CHANNEL"]["value"], variables["CHANNEL"]["type"]), ("nightly", "set by step 0 (choose the channel)"))
         self.assertEqual(client.ask("evaluate", expression="steps.choose.outputs.channel", frameId=top["id"])["result"], "nightly")
         self.moved(client, "stepBack", threadId=thread)
-        self.moved(client, "next", threadId=thread)
         variables = self.scope(client, self.top(client, thread)["id"], "Variables")
         self.assertEqual((variables["CHANNEL"]["value"], variables["CHANNEL"]["type"]), ("stable", "env of the workflow"))
 
     def test_a_variable_without_a_value(self) -> None:
         client = self.start()
         client.event("stopped")
-        job = next(one for one in client.ask("threads")["threads"] if "publish" in one["name"])["id"]
-        variables = self.scope(client, client.ask("stackTrace", threadId=job)["stackFrames"][-2]["id"], "Variables")
+        variables = self.scope(client, client.ask("stackTrace", threadId=2)["stackFrames"][-2]["id"],
+                               "Variables")
         self.assertEqual((variables["BROKEN"]["value"], variables["BROKEN"]["type"]),
                          ("", "env of the job: ${{ fromJSON('{') }} has no value: value BadJson"))
 
@@ -457,7 +459,11 @@ class Filters(DapCase):
                          ["cancelled at place 10", "cancelled at place 11"])
         client = self.at_entry(folder / "record")
         names = [f"leg {leg} (x) ended cancelled at line 3: (, v {value})" for leg, value in enumerate(["<b>", "t\u240ax", "Array"])]
-        self.assertEqual([one["name"] for one in client.ask("threads")["threads"]], names)
+        found = [client.ask("stackTrace", threadId=number)["stackFrames"][0]["id"] for number in (1, 2, 3)]
+        board = self.inside(client,
+                            self.scope(client, found[0], "Board")["run 0 (ci.json)"]["variablesReference"])
+        job = self.inside(client, next(iter(board.values()))["variablesReference"])
+        self.assertEqual(list(job), names)
 
     def test_unknown_filters_are_refused_and_the_rest_holds(self) -> None:
         client = self.launched(EXAMPLES / "fail-fast.record")

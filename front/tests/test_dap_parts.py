@@ -99,7 +99,7 @@ class Logs(Room):
         self.assertEqual(plan_masks({"runs": runs}).texts, {"one", "two", "four"})
 
     def test_commands_are_shown_as_their_messages(self) -> None:
-        log = self.write("log", "plain key\n ::Error file=a,line=3::50%25 key\n::group::key\n::endgroup::\n::debug::x\n::other::x\n"
+        log = self.write("log", "plain key\n ::Error file=a,line=3::50%25 key\n::group::key\n::endgroup::\n::debug::x\n::add-matcher::m.json\n::echo::on\n::other::x\n"
                                 "::add-mask::word\nword key\n::stop-commands::on\n::error::word\n ::on::\n::warning::a%0Ab\n::notice::")
         masks = Masks(["key"])
         text, known = read_log(log, masks)
@@ -123,6 +123,11 @@ class Logs(Room):
         self.write("step-2-1.log", "actrun-0123:2-1\na word\n")
         self.write("step-3-1.log", "a word\n")
         self.assertEqual([shown_log(self.room, leg, 1, Masks([])) for leg in (2, 3, 4)], ["a ***\n", "a word\n", ""])
+
+    def test_a_log_that_was_put_aside_is_shown_and_masks(self) -> None:
+        self.write("step-2-0.shown", "::add-mask::word\nfirst\n")
+        self.write("step-2-1.log", "a word\n")
+        self.assertEqual([shown_log(self.room, 2, step, Masks([])) for step in (0, 1)], ["first\n", "a ***\n"])
 
     def test_logs_that_cannot_be_shown(self) -> None:
         self.write("step-0-0.log", b"\xff\n")
