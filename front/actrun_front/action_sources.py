@@ -37,6 +37,7 @@ class Source:
     place: str = ""                     # the folder as steps know it; one with `./` is below the workspace
     reference: Reference | None = None  # of an action of another repository
     why: str = ""                       # its step fails, for this reason
+    post: str = ""                      # the condition of the step that its stub has after those of the job
 
 
 @dataclass
@@ -72,17 +73,17 @@ def read_action(source: Source, name: str, mark: Mark) -> Action:
     name += file.name
     try:
         document = read_document(read_small(inside(source.top, file)))
-    except OSError as fault:
-        raise ActionError(f"cannot be read: {file.name}: {fault.strerror}") from None
+    except OSError as error:
+        raise ActionError(f"cannot be read: {file.name}: {error.strerror}") from None
     for fault in document.faults:
-        raise ActionError(f"has a fault: {name}:{fault.line}: {fault.text}")
+        raise ActionError(f"has an error: {name}:{fault.line}: {fault.text}")
     return Action(copied(document.value, lambda inner: Mark(mark.line, f"{name}:{inner.line}")), source)
 
 
-def shipped() -> set[str]:
-    """The names of the actions for which a program stands."""
+def shipped() -> dict[str, str]:
+    """The actions with a stub, each with the condition of its step at the end of the job, if it has one."""
     table = json.loads((STUBS / "actions.json").read_text(encoding="utf-8"))
-    return {name.lower() for name, entry in table.items() if entry.get("stub")}
+    return {name.lower(): entry.get("post", "") for name, entry in table.items() if entry.get("stub")}
 
 
 def matching(named: dict[str, Any], uses: str) -> str | None:
@@ -128,7 +129,7 @@ class Actions:
             raise Problem("--lock fetches actions, and -n, -l and -g fetch nothing: leave one of them out")
 
     def source(self, uses: str) -> Source:
-        """Where the action of a text of `uses` is. Raises Problem where a ref has moved."""
+        """Where the action of a text of `uses` is. Raises Problem if a ref has moved."""
         if uses not in self.known:
             self.known[uses] = self.find(uses)
         return self.known[uses]
@@ -151,7 +152,7 @@ class Actions:
         real = matching(dict.fromkeys(self.options.real), uses)
         self.used |= {real} if real else set()
         if action_name(uses) in self.stands and not real:
-            return Source("stand-in; --real executes the action itself")
+            return Source("stub; --real executes the action itself", post=self.stands[action_name(uses)])
         return self.of_store(reference, uses)
 
     def of_folder(self, reference: Reference, given: str) -> Source:
@@ -163,7 +164,7 @@ class Actions:
         is_workflow = folder.is_file() and more.endswith(WORKFLOWS)
         if not is_workflow and not any((folder / name).is_file() for name in (*FILES, "Dockerfile")):
             raise Problem(f"--action {given}={top}: there is no {' or '.join(FILES)} in {folder}: name the "
-                          "folder that has it")
+                          "directory that has it")
         place = self.placed(top, reference, "" if is_whole_repository else given)
         return Source(f"from {top}", folder, top, f"{place}/{more}".rstrip("/"), reference)
 
@@ -186,7 +187,7 @@ class Actions:
         return not (self.options.no_fetch or self.options.offline)
 
     def commit(self, reference: Reference) -> str:
-        """The commit of a reference, whose files are kept by then. Raises FetchError, Problem where the ref
+        """The commit of a reference, whose files are kept by then. Raises FetchError, Problem if the ref
         has moved."""
         key = reference.key
         if key in self.commits:
@@ -230,7 +231,7 @@ class Actions:
         place = self.play.joinpath("actions", reference.owner, reference.name, last)
         if not self.looks and not place.exists() and not reference.path.endswith(WORKFLOWS):
             place.parent.mkdir(mode=0o700, parents=True, exist_ok=True)
-            words = ["cp", "-a", "--reflink=auto", "--", os.path.realpath(tree), place]
+            words = ["cp", "-a", "--reflink=auto", "--", os.path.realpath(tree), str(place)]
             done = subprocess.run(words, capture_output=True, encoding="utf-8", errors="replace", check=False)
             if done.returncode:
                 raise Problem(f"{tree} cannot be copied to {place}: {done.stderr.strip()}", 3)
@@ -279,8 +280,10 @@ class Actions:
         given = [("action", name) for name, _ in self.options.line.action]
         for option, name in (*given, *(("real", name) for name in self.options.line.real)):
             if name not in self.used:
-                raise Problem(f"--{option} {name}: no workflow of the event uses this action, or another option "
-                              "decides how it is executed")
+                raise Problem(
+                    f"--{option} {name}: no workflow of the event uses this action, or another option "
+                    "decides how it is executed"
+                )
 
     def write_lock(self) -> None:
         """Writes actrun.lock, where that is asked for: what it pins of other actions stays."""

@@ -1,20 +1,22 @@
 """What programs for actions noted of versions: steps that used another one than the workflow asks for."""
 from __future__ import annotations
 
-import os
 from pathlib import Path
 from typing import Iterable
 
-from .fetch import read_small
+from .fetch import MOST_BYTES
+from .files import read_below
 from .present import Board, mask, one_line
 
 
 def another_versions(folder: Path, secrets: list[str], board: Board) -> Iterable[str]:
-    """A sentence for each tool of which a step used another version, and before them how many steps did."""
+    """How many steps used another version of a tool, then a sentence for each such tool."""
     found = []
     for leg, step in board.places():
         try:
-            text = read_small(folder / f"another-{leg}-{step}", os.O_NOFOLLOW).decode("utf-8", "replace")
+            text = read_below(folder, str(leg), f"another-{leg}-{step}", most=MOST_BYTES).decode(
+                "utf-8", "replace"
+            )
         except OSError:
             continue
         found += [(leg, step, one_line(mask(line, secrets))) for line in text.splitlines() if line.strip()]

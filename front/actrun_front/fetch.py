@@ -1,9 +1,9 @@
 """Fetches actions of other repositories by git, once for each ref, and keeps their files by commit.
 
 `~/.cache/actrun/actions` has `refs/BASE/OWNER/NAME/REF`, a file with the commit that the ref named when it
-was fetched, and `trees/OWNER/NAME/COMMIT`, the files of that commit. A tree is made beside its place and moved there
-whole, under a lock. While git fetches it reads no configuration but that of `WORDS`, starts no hook, filter
-or helper, and follows no submodule.
+was fetched, and `trees/OWNER/NAME/COMMIT`, the files of that commit. A tree is made beside its place and
+moved there whole, under a lock. While git fetches it reads no configuration but that of `WORDS`, starts no
+hook, filter or helper, and follows no submodule.
 """
 from __future__ import annotations
 
@@ -82,12 +82,12 @@ def parse_reference(uses: str) -> Reference | None:
 
 
 def check_base(base: str) -> str:
-    """The URL before `/owner/name`, without a slash at its end. Raises Problem where nothing can be fetched
+    """The URL before `/owner/name`, without a slash at its end. Raises Problem if nothing can be fetched
     from it."""
     scheme, colon, rest = base.partition("://")
     wrong = not rest.strip("/") or rest.startswith("-") or re.search(r"[\x00-\x20]", base)
     if scheme not in SCHEMES or not colon or wrong:
-        raise Problem(f"--actions-url {base}: write https://HOST or file:///FOLDER, below which OWNER/NAME "
+        raise Problem(f"--actions-url {base}: write https://HOST or file:///DIR, below which OWNER/NAME "
                       "is a repository")
     return base.rstrip("/")
 
@@ -120,10 +120,9 @@ def git(folder: Path, scheme: str, *words: str) -> str:
     return done.stdout.decode("utf-8", "replace").strip()
 
 
-def read_small(path: Path, more: int = 0) -> bytes:
-    """The bytes of a file of at most MOST_BYTES, opened with more flags. Raises OSError also for a pipe or a
-    device."""
-    opened = os.open(path, os.O_RDONLY | os.O_NONBLOCK | os.O_CLOEXEC | more)
+def read_small(path: Path) -> bytes:
+    """The bytes of a file of at most MOST_BYTES. Raises OSError also for a pipe or a device."""
+    opened = os.open(path, os.O_RDONLY | os.O_NONBLOCK | os.O_CLOEXEC)
     with open(opened, "rb") as file:
         if not stat.S_ISREG(os.fstat(opened).st_mode):
             raise OSError(0, "it is no file", os.fspath(path))
@@ -215,7 +214,7 @@ class Store:
 
 
 def read_lock(top: Path) -> dict[str, str]:
-    """The commits that actrun.lock of a repository pins, by `owner/name@ref`; none where there is no such
+    """The commits that actrun.lock of a repository pins, by `owner/name@ref`; none if there is no such
     file."""
     place, pins = top / LOCK_NAME, {}
     try:
@@ -224,7 +223,9 @@ def read_lock(top: Path) -> dict[str, str]:
         return {}
     except (OSError, UnicodeDecodeError) as error:
         why = error.strerror if isinstance(error, OSError) else "it is no UTF-8"
-        raise Problem(f"{place}: the file cannot be read ({why}): remove it, then write it by --lock") from None
+        raise Problem(
+            f"{place}: the file cannot be read ({why}): remove it, then write it by --lock"
+        ) from None
     for number, line in enumerate(lines, 1):
         name, _, commit = line.strip().partition(" ")
         if not name or name.startswith("#"):

@@ -2,13 +2,18 @@
 from __future__ import annotations
 
 import argparse
+import re
 import shlex
 from typing import Iterable
 
 from . import Problem
-from .contexts import Play, contexts, excluded
+from .contexts import Play, commits, contexts, excluded
 from .planning import Flow
 from .present import Screen
+
+
+# words in the message of a commit by which GitHub starts no workflow for a push or a pull request
+SKIPS = re.compile(r"\[(skip ci|ci skip|no ci|skip actions|actions skip)\]|(?m:^skip-checks: ?true\s*\Z)")
 
 
 def check_event(flows: list[Flow], options: argparse.Namespace) -> None:
@@ -38,12 +43,25 @@ def filter_of(flow: Flow, play: Play) -> str | None:
     return excluded(play, trigger, contexts(play, flow.name, flow.document.value)["github"])
 
 
+def tell_skip(play: Play, screen: Screen) -> None:
+    """Says so where the message of the last commit keeps GitHub from starting workflows."""
+    if play.event in ("push", "pull_request") and play.payload is None and play.facts.repository:
+        found = SKIPS.search(next((commit["message"] for commit in commits(play.facts, None, 1)), ""))
+        if found:
+            screen.tell(
+                f"note: the message of the last commit has `{found[0].strip()}`, by which GitHub starts "
+                f"no workflow for this {play.event}",
+                "note",
+            )
+
+
 def started(picked: list[Flow], play: Play, screen: Screen, flows: list[Flow]) -> list[Flow]:
     """Of `picked` the workflows whose filter matches the event; `flows` are all that there are.
     -W with a file, and --job, mean a workflow whatever its filter."""
     options = play.options
     if options.job or options.workflows and options.workflows.endswith((".yml", ".yaml")):
         return picked
+    tell_skip(play, screen)
     kept, left = [], []
     for flow in picked:
         why = filter_of(flow, play)

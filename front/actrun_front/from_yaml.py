@@ -8,49 +8,68 @@ import sys
 from typing import Any
 
 from . import Problem, read_json
+from .files import read_named
 from .lower import Setting, lower
 from .options import matrix, unknown_matrix
 from .visible import visible
-from .yaml_reader import Document, Note, Refused, read_document, text_of
+from .yaml_reader import MOST_BYTES, Document, Note, Refused, read_document, text_of
 
 ABOUT = """\
-Makes JSON, as `actrun` reads it, of workflows in YAML.
+Converts workflows from YAML to the JSON that `actrun` reads.
 
-Each FILE holds one workflow. Its JSON is written beside it, to FILE with `.json` in the place of `.yml` or `.yaml`. A file of
-that name that has something else is replaced with `--force` alone. With `-o OUT` the JSON of the one FILE is written to OUT,
-and with `-o -` to standard output. The FILE `-` is standard input, whose JSON goes to standard output unless -o names a place.
+Each FILE holds one workflow. Its JSON goes to FILE with `.json` instead of `.yml` or `.yaml`; an existing file with other
+contents is replaced only with `--force`. `-o OUT` writes the JSON of one FILE to OUT, and `-o -` to standard output. The FILE `-`
+is standard input, whose JSON goes to standard output without -o.
 
-YAML is read as GitHub reads it, by the core schema of YAML 1.2: `on`, `yes`, `2024-01-01` and `12:30:45` are texts. `true`,
-`True`, `TRUE` and the like are truth values; `null`, `~` and nothing are null; `8`, `010`, `0x1f` and `0o17` are the whole
-numbers 8, 10, 31 and 15. A fraction, or a whole number that is too great for `actrun`, becomes the text as it is written.
-Where GitHub reads another text (3.1 for 3.10), a line on standard error says so, and the JSON is made all the same.
+YAML is read as GitHub reads it, by the core schema of YAML 1.2: `on`, `yes`, `2024-01-01` and `12:30:45` are strings. `true`,
+`True` and `TRUE` are booleans; `null`, `~` and nothing are null; `8`, `010`, `0x1f` and `0o17` are the integers 8, 10, 31 and 15.
+A fraction, or an integer out of range, becomes the string as written. If GitHub reads another value (3.1 for 3.10), a line
+on standard error says so. Anchors, aliases and `<<` are written out.
 
-Anchors, aliases and `<<` are written out. A file is refused, by lines `FILE:LINE: SENTENCE` on standard error, if it is not
-UTF-8 or not YAML, or has a second document, a key that is twice in a map or is not a text, a tag beyond the core schema, an
-alias without its anchor or inside it, infinity, NaN, an unpaired surrogate, more than 127 levels, or more than 200000 values.
+A file is rejected, by lines `FILE:LINE: SENTENCE` on standard error, if it is not UTF-8 or not YAML, or has
+  - a second document, more than 127 levels, or more than 200000 values;
+  - a key that is twice in a mapping, or that is no string;
+  - a tag beyond the core schema, an alias without its anchor or inside it;
+  - infinity, NaN, an unpaired surrogate.
 
-With --lower the workflow is rewritten so that `actrun plan` takes it, and a line on standard error names each thing that was
-replaced or dropped: numbers with fractions, hashFiles, `runner`, shells other than sh and bash, containers and services, called workflows, composite
-actions of the repository, matrices and variables by expression, limits of time, and legs for Windows and macOS.
+--lower rewrites what `actrun plan` does not accept, and a line on standard error names each thing that was replaced or dropped:
+numbers with fractions, hashFiles, `runner`, shells other than sh and bash, containers and services, called workflows, composite
+actions of the repository, matrices and variables by expression, timeouts, and legs for Windows and macOS.
 
-Exit statuses: 0 all JSON is written, 2 the arguments or a FILE is refused, 3 a file, a stream or the library failed."""
+Exit status: 0 all JSON is written, 2 an option or a FILE is wrong, 3 a file, a stream or the library failed."""
 
 
 def parsed(given: list[str]) -> argparse.Namespace:
     """The options; where they make no sense the process ends with a line that says why."""
-    parser = argparse.ArgumentParser("from-yaml", "from-yaml [-o OUT] [--lower [OPTION..]] FILE..", ABOUT, allow_abbrev=False,
-                                     formatter_class=argparse.RawDescriptionHelpFormatter)
-    parser.print_usage = lambda file=None: None
+    parser = argparse.ArgumentParser(
+        "from-yaml",
+        "from-yaml [-o OUT] [--lower [OPTION..]] FILE..",
+        ABOUT,
+        allow_abbrev=False,
+        formatter_class=argparse.RawDescriptionHelpFormatter,
+    )
+    parser.print_usage = lambda file=None: None  # type: ignore[assignment]
     add = parser.add_argument
     add("-o", metavar="OUT", help="the place of the JSON of one FILE; - is standard output")
-    add("--force", action="store_true", help="replace a FILE.json beside FILE that has something else")
+    add("--force", action="store_true", help="replace an existing FILE.json with other contents")
     add("--lower", action="store_true", help="rewrite the workflow for `actrun plan`")
-    add("--contexts", metavar="FILE", help="JSON with the objects github, inputs, vars, secrets and runner, as far as they are known; hand the "
+    add("--contexts", metavar="FILE", help="JSON with the objects github, inputs, vars, secrets and runner, as far as they are known; give the "
         "same file to `actrun plan`")
-    add("--repository", metavar="DIR", help="the folder that hashFiles, ./ACTION and ./.github/workflows/FILE look in; without it the one with "
-        "the .github/workflows that FILE is in, else the current folder")
-    add("--matrix", action="append", default=[], type=matrix, metavar="JOB.VARIABLE=JSON", help="the value of a matrix variable, of `matrix`, "
-        "`include`, `exclude`, `fail-fast` or `max-parallel`")
+    add(
+        "--repository",
+        metavar="DIR",
+        help="the directory of hashFiles, ./ACTION and ./.github/workflows/FILE (default: that with "
+        "the .github/workflows of FILE, else the current one)",
+    )
+    add(
+        "--matrix",
+        action="append",
+        default=[],
+        type=matrix,
+        metavar="JOB.VARIABLE=JSON",
+        help="the value of a matrix variable, of `matrix`, "
+        "`include`, `exclude`, `fail-fast` or `max-parallel`",
+    )
     add("--any-system", action="store_true", help="let legs for Windows and macOS execute their steps here")
     add("names", nargs="+", metavar="FILE", help="a workflow in YAML; - is standard input")
     try:
@@ -66,11 +85,13 @@ def parsed(given: list[str]) -> argparse.Namespace:
 
 
 def contexts_of(name: str) -> dict[str, Any]:
-    """The objects in the file of --contexts. Raises ValueError where it holds something else."""
-    given = read_json(pathlib.Path(name).read_bytes())
+    """The objects in the file of --contexts. Raises ValueError if it holds something else."""
+    given: dict[str, Any] = read_json(pathlib.Path(name).read_bytes())
     for key in ("github", "inputs", "vars", "secrets", "runner"):
         if not isinstance(given, dict) or not isinstance(given.get(key, {}), dict):
-            raise ValueError("it must hold a JSON object whose github, inputs, vars, secrets and runner are objects")
+            raise ValueError(
+                "it must hold a JSON object whose github, inputs, vars, secrets and runner are objects"
+            )
     return given
 
 
@@ -79,7 +100,13 @@ def lowered(document: Document, name: str, options: argparse.Namespace, known: d
     folder = pathlib.Path(name).absolute().parent
     found = folder.parent.parent if folder.parts[-2:] == (".github", "workflows") else pathlib.Path()
     try:
-        done = lower(document, name, Setting(pathlib.Path(options.repository or found), known, dict(options.matrix), options.any_system))
+        done = lower(
+            document,
+            name,
+            Setting(
+                pathlib.Path(options.repository or found), known, dict(options.matrix), options.any_system
+            ),
+        )
     except Refused as refused:
         return Document(faults=[Note(refused.line, refused.text)])
     options.asked |= done.asked
@@ -89,10 +116,14 @@ def lowered(document: Document, name: str, options: argparse.Namespace, known: d
 def convert(name: str, options: argparse.Namespace, known: dict[str, Any]) -> int:
     """Makes the JSON of a file, prints faults or notes, and returns the status."""
     base, end = os.path.splitext(name)
-    out = options.o or ("-" if name == "-" else (base if end.lower() in (".yml", ".yaml") else name) + ".json")
+    out = options.o or (
+        "-" if name == "-" else (base if end.lower() in (".yml", ".yaml") else name) + ".json"
+    )
     place = name
     try:
-        document = read_document(sys.stdin.buffer.read() if name == "-" else pathlib.Path(name).read_bytes())
+        document = read_document(
+            sys.stdin.buffer.read(MOST_BYTES + 1) if name == "-" else read_named(name, MOST_BYTES)
+        )
         if options.lower and not document.faults:
             document = lowered(document, name, options, known)
         for note in document.faults or document.notes:
@@ -102,8 +133,19 @@ def convert(name: str, options: argparse.Namespace, known: dict[str, Any]) -> in
             return 2
         place = "standard output" if out == "-" else out
         text = (text_of(document.value) + "\n").encode()
+        if (
+            not options.o
+            and out != "-"
+            and os.path.lexists(out)
+            and (os.path.islink(out) or not os.path.isfile(out))
+        ):
+            print(
+                visible(f"from-yaml: {out} is a link or no plain file: -o OUT names another place"),
+                file=sys.stderr,
+            )
+            return 2
         if not options.o and out != "-" and not options.force and has_other(out, text):
-            print(f"from-yaml: {out} is there already, with something else: "
+            print(f"from-yaml: {out} exists, with other contents: "
                   "--force replaces it, -o OUT names another place", file=sys.stderr)
             return 2
         with open(1 if out == "-" else out, "wb", closefd=out != "-") as it:

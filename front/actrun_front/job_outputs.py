@@ -1,16 +1,27 @@
 """Outputs of jobs that have a secret in them: as on GitHub they are not handed on, and a line says so."""
 from __future__ import annotations
 
-from typing import TYPE_CHECKING, Any, Iterator
+import threading
+import time
+from functools import partial
+from pathlib import Path
+from typing import TYPE_CHECKING, Any, Callable, Iterator, Mapping
 
+from .dap_record import Board, board_of
 from .expressions import Access, as_text, expression_of, has_expression, literal, references
-from .masks import LEAST, Masks, forms, texts
+from .late import Answer
+from .late_hashes import OUTPUTS
+from .lower_outputs import VARIABLE
+from .masks import BEGIN, LEAST, Masks, forms, texts
+from .relay import Ended
 
 if TYPE_CHECKING:
-    from .present import Board
+    from .attempt import Trial
+    from .present import Board as Steps, Leg
 
-HIDDEN = "***"  # what the program puts in place of a secret in values
+HIDDEN = "***"  # what the program puts in place of a secret in values, where the shim puts no veil there
 LONGEST = 20_000  # bytes of an expression
+PATIENCE, PAUSE = 10.0, 0.01  # seconds
 DIRECT = ("secrets", "env", "inputs")  # contexts that have secrets as they are
 
 
@@ -28,11 +39,11 @@ def withheld(template: str, secrets: dict[str, str]) -> str:
     """The template of an output that is empty where its text has a secret in it, if that is not too long."""
     text = as_text(expression_of(template))
     named = secrets if {access.context for access in references(text)[0]}.intersection(DIRECT) else []
-    found = [literal(HIDDEN), *(f"secrets[{literal(name)}]" for name in named)]
+    found = [literal(HIDDEN), literal(BEGIN), *(f"secrets[{literal(name)}]" for name in named)]
     known = {form for value in secrets.values() for form in forms(value)} - set(secrets.values())
     encoded = sorted(form for form in known if len(form) >= LEAST)
     tests = [f"!contains({text}, {one})" for one in (*found, *map(literal, encoded))]
-    fewer = (tests, tests[:len(found)], tests[:1])
+    fewer = (tests, tests[:len(found)], tests[:2])
     made = [f"${{{{ {' && '.join(some)} && {text} || '' }}}}" for some in fewer]
     return next((one for one in made if len(one.encode("utf-8", "replace")) <= LONGEST), template)
 
@@ -45,7 +56,75 @@ def outputs_read(template: str) -> Iterator[tuple[str, str]]:
     yield from ((access.keys[0].lower(), access.keys[2].lower()) for access in accesses)
 
 
-def warnings(plan: dict[str, Any], board: Board) -> Iterator[str]:
+def merged(plan: dict[str, Any]) -> set[int]:
+    """The jobs of several legs whose outputs other jobs may read."""
+    jobs = [job for run in plan["runs"] for job in run["jobs"]]
+    needed = {number for job in jobs for number in job["needs"]}
+    return {job["number"] for job in jobs
+            if job["number"] in needed and job["outputs"] and len(job["legs"]) > 1}
+
+
+class Merged:
+    """What the legs of one job with a matrix have set so far. The program takes the outputs of the leg that
+    ends last, so each one waits until the one before it has ended."""
+
+    def __init__(self, ended: Ended) -> None:
+        self.guard, self.ended = threading.Lock(), ended
+        self.values: dict[str, str] = {}
+        self.last: int | None = None  # the leg that has these values
+
+    def add(self, values: Mapping[str, str]) -> None:
+        """Adds the outputs of a leg that are not empty."""
+        self.values.update(
+            (name, value) for name, value in values.items() if value or name not in self.values
+        )
+
+    def answer(self, leg: int, variables: Mapping[bytes, bytes]) -> Answer:
+        """The answer of the last step of a leg, by its variables."""
+        given = {
+            name.decode("utf-8", "replace"): value.decode("utf-8", "replace")
+            for name, value in variables.items()
+        }
+        with self.guard:
+            end = time.monotonic() + PATIENCE  # (that leg ends at once, unless the program does)
+            while self.last not in (None, *self.ended.read()) and time.monotonic() < end:
+                time.sleep(PAUSE)
+            self.add(
+                {name[len(VARIABLE) :]: value for name, value in given.items() if name.startswith(VARIABLE)}
+            )
+            self.last = leg
+            return Answer({"kind": "exit", "code": 0, "outputs": dict(self.values), "env": {}}, b"")
+
+
+def finders(trial: Trial) -> dict[tuple[int, int], Callable[[dict[bytes, bytes]], Answer]]:
+    """What answers the last steps of legs that hand on outputs."""
+    jobs: dict[int, Merged] = {}
+    places: dict[tuple[int, int], Callable[[dict[bytes, bytes]], Answer]] = {}
+    for leg in trial.legs:
+        last = len(leg.job["steps"]) - 1
+        if last < 0 or leg.job["steps"][last].get("id") != OUTPUTS:
+            continue
+        merged = jobs.setdefault(leg.job["number"], Merged(Ended(trial.part)))
+        places[leg.number, last] = partial(merged.answer, leg.number)
+        known = trial.known.get((leg.number, last))
+        merged.add(known.answer.get("outputs", {}) if known else {})
+    return places
+
+
+def lost(legs: list[Leg], jobs: set[int], record: Path) -> Iterator[str]:
+    """The lines of outputs that a leg left empty after another had set them. GitHub keeps the value of the
+    other leg."""
+    board = board_of(record) if jobs else Board()
+    for job in sorted(jobs):
+        own = [leg for leg in board.ends if legs[leg].job["number"] == job]
+        for name in sorted({name for leg in own for name in board.legs[leg].outputs}):
+            values = [board.legs[leg].outputs.get(name, "") for leg in own]
+            if not values[-1] and any(values):
+                yield (f"warning: job {legs[own[0]].job['id']}: its last leg left the output {name} empty, and jobs "
+                       "that need it see that; on GitHub they see the value of another leg")
+
+
+def warnings(plan: dict[str, Any], board: Steps) -> Iterator[str]:
     """The lines of outputs that were not handed on."""
     answers = board.steps.entries.read() if board.steps.entries else {}
     for leg in board.legs:
@@ -56,7 +135,7 @@ def warnings(plan: dict[str, Any], board: Board) -> Iterator[str]:
         ids = {number: str(step["id"]).lower() for number, step in steps if step.get("id")}
         hidden = {(ids[number], name.lower()) for number in ids
                   for name, value in answers.get((leg.number, number), {}).get("outputs", {}).items()
-                  if HIDDEN in value or masks.hide(value) != value}
+                  if HIDDEN in value or BEGIN in value or masks.hide(value) != value}
         for name, template in leg.job["outputs"].items():
             if hidden.intersection(outputs_read(template)):
                 yield f"warning: {leg.name}: Skip output '{name}' since it may contain secret."

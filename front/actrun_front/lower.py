@@ -1,4 +1,5 @@
-"""Rewrites a workflow so that `actrun plan` takes it: what the program leaves out is replaced or dropped, with a note for each."""
+"""Rewrites a workflow so that `actrun plan` takes it: what the program leaves out is replaced or dropped,
+with a note for each."""
 from __future__ import annotations
 
 import hashlib
@@ -7,24 +8,49 @@ import shutil
 from dataclasses import dataclass, field
 from typing import Any, Dict, List, Set, Tuple
 
-from .expressions import EvaluationError, Rules, as_text, expression_of, grouped, has_expression, known_keys, rewrite_template
+from .expressions import (
+    EvaluationError,
+    Rules,
+    as_text,
+    expression_of,
+    grouped,
+    has_expression,
+    known_keys,
+    rewrite_template,
+)
 from .late_hashes import add_hashes
+from .lower_checks import note_differences
 from .lower_inline import inline_actions, inline_calls
 from .lower_legs import lower_legs
 from .lower_containers import lower_containers, lower_docker_actions
 from .lower_matrix import lower_env, lower_strategy, lower_system
 from .lower_numbers import fold_job, fold_numbers, no_values, settle
-from .lower_tree import (KnownContexts, Lowering, Setting, is_set, name_steps, part, rewrite_texts, set_default_variables, set_variable,
-                         shown, steps_of)
+from .lower_outputs import add_outputs
+from .lower_tree import (
+    KnownContexts,
+    Lowering,
+    Setting,
+    drop_default_variables,
+    is_set,
+    name_steps,
+    part,
+    rewrite_texts,
+    set_default_variables,
+    set_variable,
+    shown,
+    steps_of,
+)
 from .names import fill_names, filled
+from .output_limits import plain_output
 from .written import Parts, parts_of
-from .yaml_reader import Document, Note, Path, Refused, copied, lines_of, mark_of
+from .yaml_reader import Document, Note, Path, Refused, copied, lines_of, mark_of, text_of
 from .old_commands import relay_commands
 
 __all__ = ["EvaluationError", "Lowered", "Refused", "Setting", "lower"]
 
 KNOWN_SHELLS = ("", "bash", "sh")
-# the script of a step with another shell or a limit of time: it writes the step's own script to a file, and starts that as GitHub does
+# the script of a step with another shell or a limit of time: it writes the step's own script to a file, and
+# starts that as GitHub does
 STARTER = r"""cat >"${0%.sh}.script" <<'END'
 SCRIPTEND
 case $ACTRUN_SHELL in
@@ -82,20 +108,28 @@ class Lowered:
     value: Any
     lines: Dict[Path, int]  # places in `value` -> line of the YAML file
     notes: List[Note] = field(default_factory=list)
-    foreign: List[Tuple[str, str]] = field(default_factory=list)  # (job id, labels of runs-on) of legs that execute nothing here
+    # (job id, labels of runs-on) of legs that execute nothing here
+    foreign: List[Tuple[str, str]] = field(default_factory=list)
     asked: Set[Tuple[str, str]] = field(default_factory=set)  # (job id, variable): what --matrix can give
-    orders: Dict[str, List[str]] = field(default_factory=dict)  # job id -> variables of its matrix, as they are written
-    guards: Set[str] = field(default_factory=set)  # conditions before those of steps, by which legs of `foreign` execute nothing
+    # job id -> variables of its matrix, as they are written
+    orders: Dict[str, List[str]] = field(default_factory=dict)
+    # conditions before those of steps, by which legs of `foreign` execute nothing
+    guards: Set[str] = field(default_factory=set)
     late: Dict[str, List[str]] = field(default_factory=dict)  # jobs whose strategy comes with others -> these
+    # jobs -> what they are executed without: container, services
+    without: Dict[str, str] = field(default_factory=dict)
     parts: Parts = field(default_factory=dict)  # what the front made, as the user wrote it
 
 
 def lower(document: Document, file: str, setting: Setting) -> Lowered:
-    """The lowered workflow of a document without faults. Raises Refused where a part cannot be rewritten."""
+    """The lowered workflow of a document without faults. Raises Refused if a part cannot be rewritten."""
     lowering, flow = Lowering(setting), copied(document.value)
     settle(flow, lowering, document.notes)
     if isinstance(flow, dict) and isinstance(flow.get("jobs"), dict):
+        note_differences(lowering, flow)
         inline_calls(lowering, flow)
+        drop_default_variables(lowering, flow)
+        settle_scalars(flow)
         rewrite_texts(flow, KnownContexts(lowering))
         fold_numbers(lowering, flow, no_values)
         lower_env(lowering, flow, {})
@@ -105,8 +139,31 @@ def lower(document: Document, file: str, setting: Setting) -> Lowered:
         drop_default_shell(flow)
         if has_expression(flow.get("run-name")):
             flow["run-name"] = filled(lowering, flow["run-name"], {})
-    return Lowered(flow, lines_of(flow), sorted(lowering.notes, key=lambda note: note.line), lowering.foreign, lowering.asked,
-                   lowering.orders, lowering.guards, lowering.late, parts_of(flow))
+    return Lowered(
+        flow,
+        lines_of(flow),
+        sorted(lowering.notes, key=lambda note: note.line),
+        lowering.foreign,
+        lowering.asked,
+        lowering.orders,
+        lowering.guards,
+        lowering.late,
+        lowering.without,
+        parts_of(flow),
+    )
+
+
+def settle_scalars(flow: Any) -> None:
+    """Takes out each `if` without a value, which on GitHub is no condition, and writes names and outputs that
+    are no texts as such."""
+    jobs = [job for job in flow["jobs"].values() if isinstance(job, dict)]
+    for node in (flow, *jobs, *(step for job in jobs for step in steps_of(job))):
+        if node.get("if", "") is None:
+            del node["if"]
+        outputs = part(node, "outputs")
+        for place, key in ((node, "name"), *((outputs, name) for name in outputs)):
+            if isinstance(place.get(key), (bool, int)):
+                place[key] = text_of(place[key])
 
 
 def lower_job(lowering: Lowering, flow: Any, job_id: str, job: Any) -> None:
@@ -114,12 +171,17 @@ def lower_job(lowering: Lowering, flow: Any, job_id: str, job: Any) -> None:
     lower_containers(lowering, job_id, job)
     name = job.known_as or job_id
     name_steps(job)
-    inline_actions(lowering, job, is_set({**run_defaults(flow), **run_defaults(job)}.get("working-directory")))
+    inline_actions(
+        lowering, job, is_set({**run_defaults(flow), **run_defaults(job)}.get("working-directory"))
+    )
     add_hashes(lowering, job)
-    lower_docker_actions(lowering, job)
-    rewrite_texts(job, KnownContexts(lowering, name))
+    add_outputs(lowering, flow, job_id, job)
+    lower_docker_actions(lowering, job_id, job)
+    rewrite_texts(job, KnownContexts(lowering, name, runs_on=job.get("runs-on")))
+    rewrite_texts(job, Rules({"steps": plain_output}))
     for step in steps_of(job):
-        rewrite_texts(step, KnownContexts(lowering, name, step.known_as))
+        rewrite_texts(step, Rules({"steps": plain_output}))
+        rewrite_texts(step, KnownContexts(lowering, name, step.known_as, job.get("runs-on")))
     lower_strategy(lowering, job_id, job)
     fold_job(lowering, job, steps_of(job))
     for node in [job, *steps_of(job)]:
@@ -137,19 +199,24 @@ def run_defaults(node: Any) -> Any:
 
 
 def drop_default_shell(node: Any) -> None:
-    """Takes the default shell out of a workflow or job, unless the program knows it. Its steps have one of their own by then."""
+    """Takes the default shell out of a workflow or job, unless the program knows it. Its steps have one of
+    their own by then."""
     shell = run_defaults(node).get("shell")
     if isinstance(shell, str) and shell not in KNOWN_SHELLS:
         del run_defaults(node)["shell"]
 
 
 def lower_scripts(lowering: Lowering, job: Any, flow: Any) -> None:
-    """Gives the program a job's scripts for sh and bash alone. Limits of jobs and actions need watched steps."""
+    """Gives the program a job's scripts for sh and bash alone. Limits of jobs and actions need watched
+    steps."""
     limit = limit_of(lowering, job)
     if is_set(limit) and lowering.setting.watched:
         set_variable(job, "ACTRUN_JOB_MINUTES", str(limit))
     elif is_set(limit):
-        lowering.note(mark_of(job, "timeout-minutes"), "timeout-minutes of a job is not enforced; that of a step with a script is")
+        lowering.note(
+            mark_of(job, "timeout-minutes"),
+            "timeout-minutes of a job is not enforced; that of a step with a script is",
+        )
     for step in steps_of(job):
         if step.get("if") is False:
             step.pop("shell", None)
@@ -174,15 +241,23 @@ def limit_of(lowering: Lowering, node: Any) -> Any:
 
 
 def see_own_variables(step: Any) -> None:
-    """Puts the variables of a step itself in place of `env.NAME` where they count, since these texts become variables beside them."""
-    rules = Rules({"env": known_keys({name: grouped(as_text(expression_of(value))) for name, value in part(step, "env").items()})})
+    """Puts the variables of a step itself in place of `env.NAME` where they count, since these texts become
+    variables beside them."""
+    rules = Rules(
+        {
+            "env": known_keys(
+                {name: grouped(as_text(expression_of(value))) for name, value in part(step, "env").items()}
+            )
+        }
+    )
     for key in ("working-directory", "shell", "timeout-minutes"):
         if has_expression(step.get(key)):
             step[key] = rewrite_template(step[key], rules)
 
 
 def lower_script(lowering: Lowering, step: Any, places: List[Any]) -> None:
-    """Puts the starter in place of a script that needs it. `places` are where its shell may be named, the first one counts."""
+    """Puts the starter in place of a script that needs it. `places` are where its shell may be named, the
+    first one counts."""
     script, limit, watched = step["run"], limit_of(lowering, step), lowering.setting.watched
     named = [node for node in places if isinstance(node.get("shell"), str)]
     shell = named[0]["shell"] if named else ""

@@ -1,4 +1,5 @@
-"""What GitHub finds wrong in a composite action of the repository when its step begins: the step fails."""
+"""Steps that fail since GitHub cannot load their action, and notes of what is written otherwise here than on
+GitHub."""
 from __future__ import annotations
 
 import re
@@ -9,8 +10,28 @@ from .lower_tree import Lowering, part
 from .yaml_reader import Map, mark_of, members
 
 
+DIFFERENCES = (
+    (
+        re.compile(r"\btoJSON\s*\(\s*[^\s')]", re.IGNORECASE),
+        "toJSON sorts keys here, GitHub writes them in their own order",
+    ),
+    (re.compile("::add-matcher::", re.IGNORECASE), "problem matchers make no annotations here"),
+)
+
+
+def note_differences(lowering: Lowering, node: Any) -> None:
+    """Notes what the texts of a workflow have that looks otherwise here."""
+    for key, value in members(node):
+        if isinstance(value, str):
+            for form, text in DIFFERENCES:
+                if form.search(value):
+                    lowering.note(mark_of(node, key), text)
+        else:
+            note_differences(lowering, value)
+
+
 def failing_step(lowering: Lowering, step: Any, action: Any) -> Optional[Any]:
-    """The step that takes the place of one whose action GitHub cannot load; None where it can."""
+    """The step that replaces one whose action GitHub cannot load; None if GitHub can load it."""
     steps = part(action, "runs").get("steps")
     scripts = [(at, one) for at, one in members(steps) if isinstance(one, dict) and "run" in one]
     missing = next((at for at, one in scripts if "shell" not in one), None)

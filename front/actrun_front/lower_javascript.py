@@ -25,12 +25,14 @@ OF_DEFAULTS = ("github", "strategy", "matrix", "job", "runner")
 PLACEHOLDERS = {"actions/github-script": "github-token"}
 MOST_STEPS = 1024  # of a job, with those that use composite actions: the planner takes 256 without them
 MOST_TEXT = 1 << 24
+AROUND = ("pre", "pre-if", "post", "post-if")
 # what `pre` and `post` have of the step
 KEPT = ("env", "with", "uses", "continue-on-error", "timeout-minutes")
 
 
 def check_defaults(lowering: Lowering, mark: Mark, uses: str, declared: Any) -> None:
-    """Refuses a default of an input that reads what GitHub shows none, as the secrets of who uses the action."""
+    """Refuses a default of an input that reads what GitHub shows none, as the secrets of who uses the
+    action."""
     for name in declared:
         value = part(declared, name).get("default")
         pieces = split(value) if isinstance(value, str) else []
@@ -60,9 +62,17 @@ def after_all(condition: Any) -> str:
 
 
 def give_inputs(lowering: Lowering, step: Any, declared: Any) -> None:
-    """Gives a step the inputs of its action, with a note for those that the action does not declare or has
-    given up."""
+    """Gives a step the inputs of its action."""
     uses, mark, given = step["uses"], mark_of(step, "uses"), part(step, "with")
+    check_inputs(lowering, mark, uses, declared, given)
+    step["with"] = whole = with_defaults(declared, given, mark)
+    for name in whole:
+        if name.lower() == PLACEHOLDERS.get(action_name(uses)):
+            whole[name] = "${{ (" + expression_of(whole[name]) + ") || 'none' }}"
+
+
+def check_inputs(lowering: Lowering, mark: Mark, uses: str, declared: Any, given: Any) -> None:
+    """Notes the inputs that an action does not declare or has given up. Refuses a wrong default."""
     check_defaults(lowering, mark, uses, declared)
     known = {str(name).lower(): part(declared, name) for name in declared}
     wrong = [str(name) for name in given if str(name).lower() not in known]
@@ -73,10 +83,6 @@ def give_inputs(lowering: Lowering, step: Any, declared: Any) -> None:
         text = known.get(str(name).lower(), {}).get("deprecationMessage")
         if text:
             lowering.note(mark, f"the input {name} of the action {uses} is deprecated: {text}")
-    step["with"] = whole = with_defaults(declared, given, mark)
-    for name in whole:
-        if name.lower() == PLACEHOLDERS.get(action_name(uses)):
-            whole[name] = "${{ (" + expression_of(whole[name]) + ") || 'none' }}"
 
 
 @dataclass
@@ -88,7 +94,8 @@ class Around:
     early: List[Any] = field(default_factory=list)  # post steps of actions with a pre step
     later: List[Any] = field(default_factory=list)  # post steps of other actions
     uses: int = 0                                   # steps that use a JavaScript action
-    paths: Tuple[str, ...] = ()                     # where actions/checkout puts the repository in the workspace
+    # where actions/checkout puts the repository in the workspace
+    paths: Tuple[str, ...] = ()
     steps: int = 0                                  # all steps, those of composite actions too
     text: int = 0                                   # characters that inputs become at most
 
@@ -129,22 +136,41 @@ class Around:
         actions.execute_by_node(uses, action)
         give_inputs(lowering, step, part(action.value, "inputs"))
         step["name"] = str(step.get("name") or f"Run {uses}")
+        self.surround(lowering, step, {key: runs.get(key) for key in AROUND}, from_start)
+        return [step]
+
+    def execute_in_container(self, lowering: Lowering, step: Any, action: Action,
+                             from_start: bool) -> List[Any]:
+        """The step that uses a Docker action. Its `pre-entrypoint` and `post-entrypoint` are kept."""
+        runs = action.value["runs"]
+        phases = {key: runs.get(key if key.endswith("-if") else f"{key}-entrypoint") for key in AROUND}
+        if phases["pre"] or phases["post"]:
+            step["name"] = str(step.get("name") or f"Run {step['uses']}")
+            self.surround(lowering, step, phases, from_start)
+        return [step]
+
+    def surround(self, lowering: Lowering, step: Any, phases: Any, from_start: bool) -> None:
+        """Keeps the steps for the phases `pre` and `post`, as far as there are some, each with its
+        condition."""
+        uses, mark = step["uses"], mark_of(step, "uses")
         if not isinstance(step.get("env") or {}, dict):
-            lowering.note(mark, f"`pre` and `post` of the action {uses} are not executed: `env` of its step is an "
-                                "expression")
-            return [step]
+            lowering.note(
+                mark,
+                f"`pre` and `post` of the action {uses} are not executed: `env` of its step is an "
+                "expression",
+            )
+            return
         self.uses += 1
         before = None
-        if runs.get("pre") and from_start:
-            before = self.phase(step, f"Pre {step['name']}", "pre", after_all(runs.get("pre-if")))
+        if phases.get("pre") and from_start:
+            before = self.phase(step, f"Pre {step['name']}", "pre", after_all(phases.get("pre-if")))
             self.before.append(before)
-        elif runs.get("pre"):
+        elif phases.get("pre"):
             lowering.note(mark, f"`pre` of the action {uses} is not executed, as on GitHub: the action, or "
                                 "one that uses it, is of the repository")
-        if runs.get("post"):
-            self.add_post(step, before, after_all(runs.get("post-if")))
+        if phases.get("post"):
+            self.add_post(step, before, after_all(phases.get("post-if")))
         self.name_phase(step, "main")
-        return [step]
 
     def add_post(self, step: Any, before: Any, condition: str) -> None:
         """Keeps the post step of a step, whose condition needs that `main` or `pre` began."""
@@ -155,7 +181,7 @@ class Around:
         began = " || ".join(f"steps.{one['id']}.outcome != 'skipped'" for one in pairs)
         # with always() no success of all steps before is needed
         whole = f"always() && ({began})" + ("" if condition == "always()" else f" && ({condition})")
-        made = self.phase(step, f"Post {step['name']}", "post", whole)
+        made = self.phase(step, f"Post {step.get('name') or step['uses']}", "post", whole)
         (self.later if before is None else self.early).append(made)
 
     def phase(self, step: Any, name: str, phase: str, condition: str) -> Any:

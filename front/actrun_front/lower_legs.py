@@ -16,7 +16,7 @@ def match_needs(jobs: Any) -> None:
     known = {name.lower(): name for name in jobs} if isinstance(jobs, dict) else {}
     for name in known.values():
         job = jobs[name]
-        needs = job.get("needs") if isinstance(job, dict) else None
+        needs: Any = job.get("needs") if isinstance(job, dict) else None
         if isinstance(needs, str):
             job["needs"] = needs if needs in jobs else known.get(needs.lower(), needs)
         for at, need in enumerate(needs if isinstance(needs, list) else ()):
@@ -61,7 +61,7 @@ def reorder(lowering: Lowering, job: Any, matrix: Any, variables: List[str]) -> 
     except EvaluationError:
         return
     places = {name: first_places(matrix[name]) for name in variables}
-    ranks = [[places[name][text_of(leg[name])] for name in variables] for leg in first]
+    ranks = [[places[name][text_of(ordered_keys(leg[name]))] for name in variables] for leg in first]
     ordered = [legs[at] for at in sorted(range(len(first)), key=lambda at: ranks[at])] + legs[len(first):]
     mark, names = mark_of(part(job, "strategy"), "matrix"), order_of(ordered, variables)
     rows = [Map({name: leg[name] for name in names if name in leg}, mark) for leg in ordered]
@@ -70,7 +70,14 @@ def reorder(lowering: Lowering, job: Any, matrix: Any, variables: List[str]) -> 
 
 def first_places(values: List[Any]) -> Dict[str, int]:
     """The first place of each value of a variable, by its JSON."""
-    return {text_of(value): at for at, value in reversed(list(enumerate(values)))}
+    return {text_of(ordered_keys(value)): at for at, value in reversed(list(enumerate(values)))}
+
+
+def ordered_keys(value: Any) -> Any:
+    """A value whose maps have their keys in order, as in the planner's legs."""
+    if isinstance(value, dict):
+        return {key: ordered_keys(value[key]) for key in sorted(value)}
+    return [ordered_keys(one) for one in value] if isinstance(value, list) else value
 
 
 def order_of(legs: List[Dict[str, Any]], variables: List[str]) -> List[str]:

@@ -8,16 +8,22 @@ from typing import Any, List, Optional
 from .expressions import (PIECE, EvaluationError, condition_expression, conjunction, has_expression, literal,
                           reads_only, references, template_expression)
 from .lower_numbers import fold_numbers, loads, no_values
-from .lower_tree import EXPRESSION_CONTEXTS, Lowering, is_set, part, shown, steps_of, texts
+from .lower_tree import EXPRESSION_CONTEXTS, Lowering, is_set, labels_of, part, shown, steps_of, texts
 from .yaml_reader import Map, Mark, Refused, Sequence, mark_of, members
 
 FOREIGN = ("windows", "macos")
-KINDS = {"strategy": (object, "anything"), "fail-fast": (bool, "true or false"), "max-parallel": (int, "a whole number"), "matrix": (dict, "a map")}
+KINDS = {
+    "strategy": (object, "anything"),
+    "fail-fast": (bool, "true or false"),
+    "max-parallel": (int, "an integer"),
+    "matrix": (dict, "a mapping"),
+}
 
 
 def lower_strategy(lowering: Lowering, job_id: str, job: Any, staged: bool = True) -> None:
-    """Puts values in place of the expressions of a job's strategy. One that is known only after other jobs is left
-    out until then, and one that turns out to be wrong then lets the job fail. Without `staged` it is refused."""
+    """Puts values in place of the expressions of a job's strategy. One that is known only after other jobs is
+    left out until then, and one that turns out to be wrong then lets the job fail. Without `staged` it is
+    refused."""
     fold_numbers(lowering, job.get("strategy"), no_values, False)
     known, was_late = staged and job_id in lowering.setting.needs, job_id in lowering.late
     try:
@@ -34,7 +40,8 @@ def lower_strategy(lowering: Lowering, job_id: str, job: Any, staged: bool = Tru
 
 
 def fail_late(job_id: str, job: Any, why: str) -> None:
-    """Puts a step that fails in place of those of a job whose strategy has no value after the jobs it needs."""
+    """Puts a step that fails in place of those of a job whose strategy has no value after the jobs it
+    needs."""
     why = why.replace("'", "\u2019").replace("\n", " ")
     text = f"::error::the strategy of job {job_id} has no value: {why}"
     script, mark = f"echo '{text.replace('${{', '$ {{')}'; exit 1", mark_of(job, "strategy")
@@ -43,7 +50,8 @@ def fail_late(job_id: str, job: Any, why: str) -> None:
 
 
 def decide_strategy(lowering: Lowering, job_id: str, job: Any, needed: Optional[List[str]]) -> None:
-    """Puts values in place of the expressions of a strategy. Outputs of the jobs in `needed` may come later."""
+    """Puts values in place of the expressions of a strategy. Outputs of the jobs in `needed` may come
+    later."""
     decide(lowering, job_id, job, "strategy", needed)
     strategy = part(job, "strategy")
     for key in ("fail-fast", "max-parallel", "matrix"):
@@ -56,7 +64,8 @@ def decide_strategy(lowering: Lowering, job_id: str, job: Any, needed: Optional[
 
 
 def decide(lowering: Lowering, job_id: str, node: Any, key: str, needed: Optional[List[str]]) -> None:
-    """Puts the value of `--matrix` in place of a member, else values in place of the expressions in it. Refuses one of another kind."""
+    """Puts the value of `--matrix` in place of a member, else values in place of the expressions in it.
+    Refuses one of another kind."""
     mark, given = mark_of(node, key), lowering.setting.matrices
     lowering.asked.add((job_id, key))
     if (job_id, key) in given:
@@ -99,7 +108,8 @@ def decided(lowering: Lowering, job_id: str, name: str, value: Any, mark: Mark,
 
 def is_late(lowering: Lowering, job_id: str, name: str, expression: str, mark: Mark,
             needed: List[str]) -> bool:
-    """Whether the value of an expression of a strategy comes with the jobs that its job needs, but not yet."""
+    """Whether the value of an expression of a strategy comes with the jobs that its job needs, but not
+    yet."""
     read = [access.keys[:1] for access in references(expression)[0] if access.context == "needs"]
     if not lowering.setting.staged or job_id in lowering.setting.needs or not read or \
             any(key not in needed for keys in read for key in keys) or \
@@ -121,13 +131,19 @@ def lower_env(lowering: Lowering, node: Any, job: Any) -> None:
     try:
         values = [value if isinstance(value, dict) else {} for value in lowering.by_leg(expression, job)]
     except EvaluationError as fault:
-        raise lowering.refuse(mark, f"env is {shown(text)}, and cannot be evaluated before execution ({fault}); "
-                                    "write its variables one by one") from None
+        raise lowering.refuse(
+            mark,
+            f"env is {shown(text)}, and cannot be evaluated before execution ({fault}); "
+            "write its variables one by one",
+        ) from None
     names = sorted({name for value in values for name in value})
     node["env"] = {name: "${{ (" + expression + ")[" + literal(name) + "] }}" for name in names}
     missing = [name for name in names if any(name not in value for value in values)]
-    lowering.note(mark, f"env is {shown(text)}: its variables {', '.join(names) or '(none)'} are written one by one"
-                  + (f"; {', '.join(missing)}, which some legs do not have, is empty there" if missing else ""))
+    lowering.note(
+        mark,
+        f"env is {shown(text)}: its variables {', '.join(names) or '(none)'} are written one by one"
+        + (f"; {', '.join(missing)}, which some legs do not have, is empty there" if missing else ""),
+    )
 
 
 def lower_system(lowering: Lowering, job_id: str, job: Any) -> None:
@@ -135,17 +151,21 @@ def lower_system(lowering: Lowering, job_id: str, job: Any) -> None:
     mark, runs_on = mark_of(job, "runs-on"), job.get("runs-on")
     if lowering.setting.any_system or not is_set(runs_on):
         return
-    labels = texts(runs_on.get("labels") if isinstance(runs_on, dict) else runs_on)
-    joined = "".join(" " + PIECE.sub(lambda it: "${{ join(" + it[1].strip() + ", ' ') }}", label) for label in labels)
+    joined = "".join(" " + PIECE.sub(lambda it: "${{ join(" + it[1].strip() + ", ' ') }}", label)
+                     for label in labels_of(runs_on))
     expression = template_expression(joined)
     condition, everywhere = " && ".join(f"!contains({expression}, ' {name}')" for name in FOREIGN), False
     try:
         found = lowering.by_leg(expression, job)
-        foreign = sorted({text.strip() for text in found if any(" " + name in text.lower() for name in FOREIGN)})
+        foreign = sorted(
+            {text.strip() for text in found if any(" " + name in text.lower() for name in FOREIGN)}
+        )
         if not foreign:
             return
         lowering.foreign += [(job_id, name) for name in foreign]
-        lowering.note(mark, f"no step of job {job_id} is executed on {', '.join(foreign)}: this machine has Linux")
+        lowering.note(
+            mark, f"no step of job {job_id} is executed on {', '.join(foreign)}: this machine has Linux"
+        )
         everywhere = {text.strip() for text in found} == set(foreign)
     except EvaluationError:
         lowering.note(mark, f"the system of job {job_id} is known only during execution: its steps are skipped on Windows and macOS")

@@ -1,9 +1,9 @@
 """Numbers with a fraction, which the program does not have, are compared before planning, as IEEE doubles.
 
-A number of YAML becomes a whole number, or the text that GitHub prints of it. A comparison of constants, or
-of a value of the matrix, is decided for each value. Of a value that only the execution knows, `x > 10.5` becomes
-`x > 10`, and `x == 10.5` a comparison that is an error where x is a text with a fraction in another spelling:
-no comparison is false for want of fractions.
+A number of YAML becomes an integer, or the string that GitHub prints. A comparison of constants, or
+of a value of the matrix, is decided for each value. Of a value that only the execution knows, `x > 10.5`
+becomes `x > 10`, and `x == 10.5` a comparison that is an error where x is a text with a fraction in another
+spelling: no comparison is false because fractions are missing.
 """
 from __future__ import annotations
 
@@ -24,9 +24,13 @@ RELATIONS = {"<": operator.lt, "<=": operator.le, ">": operator.gt, ">=": operat
 TURNED = {"<": ">", "<=": ">=", ">": "<", ">=": "<=", "==": "==", "!=": "!="}
 LEVELS = (("||",), ("&&",), ("==", "!="), ("<", "<=", ">", ">="))
 DECIMAL = re.compile(r"[-+]?([0-9]+\.?[0-9]*|\.[0-9]+)([eE][-+]?[0-9]+)?")
-# texts that GitHub reads as numbers, and the program does not
-OTHER_NUMBER = re.compile(r"\s*[-+]?(0[xX][0-9a-fA-F]+|0[oO][0-7]+|Infinity)\s*|\s+\S.*|.*\S\s+", re.DOTALL)
+WHOLE = re.compile("-?(0|[1-9][0-9]*)")
+# texts that GitHub reads as numbers of 32 bits
+OF_BASE = {16: re.compile("0x([0-9a-fA-F]{1,8})"), 8: re.compile("0o([0-7]{1,10})")}
+INFINITE = {"Infinity": math.inf, "-Infinity": -math.inf}
 MOST_VALUES = 64
+CASE = re.compile(r"case\s*\(", re.IGNORECASE)
+TRUE = re.compile(r"'(?:[^']|'')+'|true|-?[1-9][0-9]*")  # literals that are true
 FROM_JSON = re.compile(rf"fromJSON\s*\(\s*({TEXT})\s*\)", re.IGNORECASE)
 
 
@@ -40,7 +44,7 @@ def settle(node: Any, lowering: Lowering, notes: List[Note]) -> None:
                 notes.remove(value.note)
                 lowering.note(Mark(value.note.line),
                               f"{value} is the number {node[key]}, as GitHub reads it; "
-                                                     "write a text in quotes")
+                                                     "write a string in quotes")
         else:
             settle(value, lowering, notes)
 
@@ -173,15 +177,20 @@ def constant(kind: str, text: str) -> Any:
 
 
 def as_number(value: Any) -> float:
-    """The number that GitHub compares: not-a-number of a text that is none. Raises EvaluationError where the
-    program reads it otherwise."""
-    if value is None or value == "":
+    """The number that GitHub compares: not-a-number of a text that is none."""
+    if value is None:
         return 0.0
     if not isinstance(value, str) or isinstance(value, Number):
         return float(value)
-    if OTHER_NUMBER.fullmatch(value):
-        raise EvaluationError(f"{literal(value)} is a number in a spelling that is not read here")
-    return float(value) if DECIMAL.fullmatch(value) else math.nan
+    text = value.strip()
+    if not text or DECIMAL.fullmatch(text):
+        return float(text or 0)
+    for base, form in OF_BASE.items():
+        found = form.fullmatch(text)
+        if found:
+            number = int(found[1], base)
+            return float(number - (number >> 31 << 32))
+    return INFINITE.get(text, math.nan)
 
 
 def is_fraction(value: Any) -> bool:
@@ -218,26 +227,28 @@ class Folder:
         self.changes: List[Tuple[str, str]] = []
 
     def fold(self, text: str) -> str:
-        """The expression, with whole numbers alone."""
+        """The expression, with integers only."""
         try:
             tree = Parser(text).whole()
-        except (Unread, RecursionError):
+            return text[:tree.start] + self.written(tree, text) + text[tree.end:]
+        except (Unread, RecursionError):  # (the program rejects what is too deep)
             return text
-        return text[:tree.start] + self.written(tree, text) + text[tree.end:]
 
     def written(self, tree: Part, text: str) -> str:
         """A part as it is written."""
         own = text[tree.start:tree.end]
+        if CASE.match(own) and len(tree.parts) > 2 and len(tree.parts) % 2:
+            return chosen([self.written(inner, text) for inner in tree.parts])
         if tree.compares:
             left, right = (self.side_of(inner, text) for inner in tree.parts)
             if needs_values(left, right) or needs_values(right, left):
                 self.changes.append((own, decided(tree.compares, left, right)))
                 return self.changes[-1][1]
         if not tree.parts:
-            is_number = tree.constant is not None and isinstance(tree.constant[0], float)
-            is_whole = re.fullmatch("-?(0|[1-9][0-9]*|0x[0-9a-fA-F]+)", own)
-            is_fraction_literal = tree.constant and is_number and not is_whole
-            return literal(plain(tree.constant[0])) if is_fraction_literal else parsed(own)
+            is_whole = WHOLE.fullmatch(own) or re.fullmatch("0x[0-9a-fA-F]+", own)
+            if tree.constant is None or not isinstance(tree.constant[0], float) or is_whole:
+                return parsed(own)
+            return literal(plain(tree.constant[0]))
         found, at = "", tree.start
         for inner in tree.parts:
             found, at = found + text[at:inner.start] + self.written(inner, text), inner.end
@@ -255,8 +266,21 @@ class Folder:
         return side
 
 
+def chosen(parts: List[str]) -> str:
+    """The expression of `case(condition, value, .., other)`, which the program lacks. Where a value may be
+    false, the values are in lists, which are true."""
+    conditions, values, other = parts[:-1:2], parts[1::2], parts[-1]
+    if all(TRUE.fullmatch(one.strip()) for one in values):
+        ways = [f"({condition}) && {value.strip()}" for condition, value in zip(conditions, values)]
+        return f"({' || '.join([*ways, f'({other.strip()})'])})"
+    lists = [f"fromJSON(format('[{{0}}]', toJSON({value.strip()})))" for value in (*values, other)]
+    ways = [f"({condition}) && {value}" for condition, value in zip(conditions, lists)]
+    return f"({' || '.join([*ways, lists[-1]])})[0]"
+
+
 def parsed(call: str) -> str:
-    """A call of fromJSON with a text whose numbers have fractions: these become what GitHub prints of them."""
+    """A call of fromJSON with a text whose numbers have fractions: these become what GitHub prints of
+    them."""
     found, fractions = FROM_JSON.fullmatch(call), []
 
     def fraction(text: str) -> Any:
@@ -270,17 +294,19 @@ def parsed(call: str) -> str:
 
 
 def needs_values(side: Side, other: Side) -> bool:
-    """Whether a side has a number that the program does not have, as a number or as a text beside one."""
+    """Whether a side has a number that the program does not have, or a text beside one that it reads
+    otherwise."""
     if any(map(is_fraction, side.values)):
         return True
     if not side.is_constant or not other.is_constant or isinstance(other.values[0], str):
         return False
     value = side.values[0]
-    return isinstance(value, str) and bool(DECIMAL.fullmatch(value)) and is_fraction(float(value))
+    is_read = value == "" or isinstance(value, str) and WHOLE.fullmatch(value)
+    return isinstance(value, str) and not is_read and not math.isnan(as_number(value))
 
 
 def decided(sign: str, left: Side, right: Side) -> str:
-    """A comparison by the values of its sides. Raises EvaluationError where it cannot be decided."""
+    """A comparison by the values of its sides. Raises EvaluationError if it cannot be decided."""
     if left.is_constant and right.is_constant:
         return text_of(compared(sign, left.values[0], right.values[0]))
     if left.values and not left.is_constant:
@@ -346,7 +372,7 @@ def sides_of_job(lowering: Lowering, job: Any) -> Callable[[str], Side]:
 
 
 def follow(value: Any, keys: Tuple[str, ...]) -> Any:
-    """What is at a path of properties, ignoring case; None where there is nothing."""
+    """What is at a path of properties, ignoring case; None if there is nothing."""
     for key in keys:
         if not isinstance(value, dict):
             return None
@@ -367,7 +393,7 @@ def fold_numbers(lowering: Lowering, node: Any, side: Callable[[str], Side], who
 
 def fold_text(lowering: Lowering, text: str, side: Callable[[str], Side], mark: Mark,
               is_condition: bool) -> str:
-    """A text with whole numbers alone. Raises Refused where a comparison cannot be decided."""
+    """A text with integers only. Raises Refused if a comparison cannot be decided."""
     folder = Folder(side)
 
     def piece(found: re.Match[str]) -> str:
@@ -400,7 +426,7 @@ def fold_job(lowering: Lowering, job: Any, steps: List[Any]) -> None:
 
 
 def no_values(text: str) -> Side:
-    """A context of which nothing is known."""
+    """A context that is unknown."""
     return Side(text)
 
 

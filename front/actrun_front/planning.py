@@ -1,4 +1,5 @@
-"""From the files of a repository to a plan: which workflows an event starts, what they become, and what the program plans of them."""
+"""From the files of a repository to a plan: which workflows an event starts, what they become, and what the
+program plans of them."""
 from __future__ import annotations
 
 import json
@@ -61,17 +62,23 @@ def workflow_files(given: str | None, bases: list[Path], top: Path) -> list[Path
     for place in places:
         if not given and place.exists() and not is_below(place, top):
             raise Problem(f"{place}: a link of it leads to {place.resolve()}, outside of the repository: name that by --workflows PATH")
-        files = [place] if place.is_file() else sorted(path for path in place.glob("*") if path.suffix in (".yml", ".yaml") and path.is_file())
+        files = (
+            [place]
+            if place.is_file()
+            else sorted(
+                path for path in place.glob("*") if path.suffix in (".yml", ".yaml") and path.is_file()
+            )
+        )
         if files:
             return files
     looked = ", ".join(dict.fromkeys(map(str, places)))
-    raise Problem(f"there is no workflow: a file or a folder with *.yml or *.yaml was expected at {looked}: name one by "
+    raise Problem(f"there is no workflow: a file or a directory with *.yml or *.yaml was expected at {looked}: name one by "
                   "--workflows PATH, or the repository by --directory DIR")
 
 
 def read_flows(files: list[Path], top: Path, screen: Screen, lenient: bool = False) -> list[Flow]:
-    """The workflows of these files without those that have faults, which are shown with line and remedy. At least one is without.
-    With `lenient` what GitHub alone refuses is a warning."""
+    """The workflows of these files without those that have faults, which are shown with line and remedy. At
+    least one is without. With `lenient` what GitHub alone refuses is a warning."""
     flows, more = [], ""
     for path in files:
         real = path.parent.resolve() / path.name
@@ -80,26 +87,30 @@ def read_flows(files: list[Path], top: Path, screen: Screen, lenient: bool = Fal
         faults = [f"{name}:{fault.line}: {fault.text}" for fault in document.faults]
         if not faults and not isinstance(document.value, dict):
             faults = [f"{name}:1: a workflow with `on` and `jobs` was expected"]
-        refused = [] if faults else [f"{name}:{fault.line}: {fault.text}" for fault in syntax.faults(document)]
+        refused = (
+            [] if faults else [f"{name}:{fault.line}: {fault.text}" for fault in syntax.faults(document)]
+        )
         for fault in refused if lenient else ():
-            screen.tell(f"warning: {fault}: GitHub refuses this workflow", "warning")
+            screen.tell(f"warning: {fault}: GitHub rejects this workflow", "warning")
         faults += [] if lenient else refused
-        more = more or ("; --lenient executes what GitHub refuses, if it can" if refused else "")
+        more = more or ("; --lenient executes what GitHub rejects, if it can" if refused else "")
         for fault in faults:
             screen.tell(fault, "failure")
         flows += [] if faults else [Flow(name, document)]
     if not flows:
         raise Problem(f"no workflow can be read: repair one, or choose others by --workflows PATH{more}")
     if len(flows) < len(files):
-        screen.tell(f"note: {len(files) - len(flows)} of {len(files)} workflows cannot be read: the others go on, and the status is 2", "warning")
+        screen.tell(f"note: {len(files) - len(flows)} of {len(files)} workflows cannot be read: the others are executed, and the status is 2", "warning")
     return flows
 
 
 def read_file(path: Path, top: Path) -> Document:
-    """The document of a workflow's file. A file of the repository is read where no link leads out of it; one that was named elsewhere as
-    it is."""
+    """The document of a workflow's file. A file of the repository is read where no link leads out of it; one
+    that was named elsewhere as it is."""
     given = path.absolute()
-    inside = top if given == top or top in given.parents or is_below(given.parent, top) else path.resolve().parent
+    inside = (
+        top if given == top or top in given.parents or is_below(given.parent, top) else path.resolve().parent
+    )
     try:
         return read_document(read_inside(inside, path, MOST_BYTES))
     except OSError as error:
@@ -112,18 +123,24 @@ def of_event(flows: list[Flow], event: str, job: str | None, screen: Screen) -> 
     having = [flow for flow in flows if job in flow.jobs]
     if job is None and not picked:
         events = sorted({name for flow in flows for name in flow.events})
-        raise Problem(f"no workflow is for the event {event}; there are: {', '.join(events)}: name one of these" if events else
-                      f"no workflow names an event: write `on: {event}` into {' or '.join(flow.name for flow in flows)}")
+        raise Problem(
+            f"no workflow is for the event {event}; there are: {', '.join(events)}: name one of these"
+            if events
+            else f"no workflow names an event: write `on: {event}` into {' or '.join(flow.name for flow in flows)}"
+        )
     if job is not None and not having:
         raise Problem(f"--job {job}: no workflow has that job; there are: {', '.join(sorted({name for flow in flows for name in flow.jobs}))}")
     both = picked if job is None else [flow for flow in having if flow in picked]
     if not both:
-        screen.tell(f"note: no workflow of the event {event} has the job {job}: it is executed all the same", "note")
+        screen.tell(
+            f"note: no workflow of the event {event} has the job {job}: it is executed anyway", "note"
+        )
     return both or having
 
 
 def plan_flows(flows: list[Flow], play: Play, screen: Screen) -> tuple[list[Flow], dict[str, Any]]:
-    """The workflows without those that cannot be planned, which are shown with line and remedy, and the plan. At least one can be."""
+    """The workflows without those that cannot be planned, which are shown with line and remedy, and the plan.
+    At least one can be."""
     lowered, faults = lower_flows(flows, play, screen)
     notes = ((flow.name, note) for flow in lowered for note in flow.notes())
     for text in note_lines(notes, bool(play.options.verbose)):
@@ -139,11 +156,15 @@ def plan_flows(flows: list[Flow], play: Play, screen: Screen) -> tuple[list[Flow
     for fault in faults:
         screen.tell(fault, "failure")
     if faults:
-        screen.tell(f"note: {len(faults)} of {len(flows)} workflows cannot be planned: the others go on, and the status is 2", "warning")
+        screen.tell(f"note: {len(faults)} of {len(flows)} workflows cannot be planned: the others are executed, and the status is 2", "warning")
     check_names(flows, play)
     if answer.returncode != 0:
         raise Problem(why_unplanned(lowered, answer, play), answer.returncode)
-    if lowered[0].contexts["github"]["event"].keys() == {"repository", "sender"} and play.event != "workflow_call" and play.payload is None:
+    if (
+        lowered[0].contexts["github"]["event"].keys() == {"repository", "sender"}
+        and play.event != "workflow_call"
+        and play.payload is None
+    ):
         screen.tell(f"note: github.event of {play.event} has only repository and sender: --eventpath FILE names a whole payload", "note")
     plan = json.loads(answer.stdout)
     for run, flow in zip(plan["runs"], lowered):
@@ -169,7 +190,11 @@ def lower_flows(flows: list[Flow], play: Play, screen: Screen) -> tuple[list[Flo
 
 def plan_words(flows: list[Flow], play: Play) -> list[str]:
     """The command that plans lowered workflows."""
-    return ["plan", *(["--job", play.options.job] if play.options.job else ["--event", play.event]), *map(str, (flow.file for flow in flows))]
+    return [
+        "plan",
+        *(["--job", play.options.job] if play.options.job else ["--event", play.event]),
+        *map(str, (flow.file for flow in flows)),
+    ]
 
 
 def ask_plan(flows: list[Flow], play: Play) -> subprocess.CompletedProcess[str]:
@@ -188,12 +213,20 @@ def why_unplanned(flows: list[Flow], answer: subprocess.CompletedProcess[str], p
 
 
 def check_names(flows: list[Flow], play: Play) -> None:
-    """Refuses an option of the command line that names what no workflow has, and an input that none declares."""
-    unknown = set(map(str.lower, play.options.inputs)) - {name.lower() for flow in flows for name in flow.contexts["inputs"]}
+    """Refuses an option of the command line that names what no workflow has, and an input that none
+    declares."""
+    unknown = set(map(str.lower, play.options.inputs)) - {
+        name.lower() for flow in flows for name in flow.contexts["inputs"]
+    }
     if unknown:
         raise Problem(f"--input {min(unknown)}: no workflow declares this input for the event {play.event}")
     # of a workflow that cannot be lowered, or left out by --job
-    left = {name: job for flow in flows for name, job in flow.jobs.items() if name not in part(flow.lowered.value, "jobs")}
+    left = {
+        name: job
+        for flow in flows
+        for name, job in flow.jobs.items()
+        if name not in part(flow.lowered.value, "jobs")
+    }
     given = [one for one in play.options.line.matrix if one[0][0] not in left]
     wrong = unknown_matrix(given, {place for flow in flows for place in flow.lowered.asked})
     if wrong:
@@ -208,11 +241,15 @@ def check_names(flows: list[Flow], play: Play) -> None:
 
 def chosen(flow: Flow, job: str | None) -> Document:
     """The workflow's document, with --job only that job and those that it needs, directly or not."""
-    if job not in flow.jobs:
+    if job is None or job not in flow.jobs:
         return flow.document
     kept = [job]
     for name in kept:
-        kept += [need for need in texts(part(flow.jobs, name).get("needs")) if need in flow.jobs and need not in kept]
+        kept += [
+            need
+            for need in texts(part(flow.jobs, name).get("needs"))
+            if need in flow.jobs and need not in kept
+        ]
     value = copied(flow.document.value)
     for name in flow.jobs.keys() - set(kept):
         del value["jobs"][name]
@@ -220,24 +257,42 @@ def chosen(flow: Flow, job: str | None) -> Document:
 
 
 def lower_flow(flow: Flow, number: int, play: Play, screen: Screen) -> None:
-    """Lowers one workflow into a file that the program reads, and shows what was rewritten. Raises Refused."""
+    """Lowers one workflow into a file that the program reads, and shows what was rewritten. Raises
+    Refused."""
     room, options = play.room, play.options
     flow.contexts = contexts(play, flow.name, flow.document.value)
     flow.contexts["github"]["event_path"] = str(room.play / "files" / f"event-{number}.json")
     top = room.files if room.files.exists() and not room.files.is_symlink() else play.facts.top
-    setting = Setting(top, flow.contexts, options.matrices, bool(options.any_system), containers=engine_state(flow, options, top),
-                      sh_line=SH_HOOK, relay=RELAY, actions=play.actions, watched=True, staged=True, needs=play.needs.get(flow.name, {}),
-                      strict=not options.lenient)
+    setting = Setting(
+        top,
+        flow.contexts,
+        options.matrices,
+        bool(options.any_system),
+        containers=engine_state(flow, options, top),
+        sh_line=SH_HOOK,
+        relay=RELAY,
+        actions=play.actions,
+        watched=True,
+        staged=True,
+        needs=play.needs.get(flow.name, {}),
+        strict=not options.lenient,
+    )
     flow.lowered = lower(chosen(flow, options.job), flow.name, setting)
     filtered = excluded(play, flow.events.get(play.event), flow.contexts["github"])
     if filtered:
-        screen.tell(f"note: {flow.name}: on GitHub its filter would keep it from this event ({filtered})", "note")
+        screen.tell(
+            f"note: {flow.name}: on GitHub its filter would keep it from this event ({filtered})", "note"
+        )
     value, flow.file = flow.lowered.value, room.private / f"{number}.json"
-    write_private(flow.file, json.dumps({"name": flow.name, **value} if isinstance(value, dict) else value, ensure_ascii=False))
+    write_private(
+        flow.file,
+        json.dumps({"name": flow.name, **value} if isinstance(value, dict) else value, ensure_ascii=False),
+    )
 
 
 def engine_state(flow: Flow, options: Any, top: Path) -> str:
-    """How containers and services of a workflow are executed: the word for the lowering, or why they are refused."""
+    """How containers and services of a workflow are executed: the word for the lowering, or why they are
+    refused."""
     if options.list or options.dryrun or options.graph or not needs_engine(flow.jobs, top):
         return "keep"
     why = lacks_engine(options)
@@ -246,7 +301,9 @@ def engine_state(flow: Flow, options: Any, top: Path) -> str:
 
 def write_private(path: Path, text: str) -> None:
     """Writes a file that only its owner can read."""
-    with open(os.open(path, os.O_WRONLY | os.O_CREAT | os.O_TRUNC, 0o600), "w", encoding="utf-8", errors="replace") as file:
+    with open(
+        os.open(path, os.O_WRONLY | os.O_CREAT | os.O_TRUNC, 0o600), "w", encoding="utf-8", errors="replace"
+    ) as file:
         file.write(text)
 
 
@@ -254,11 +311,26 @@ def job_rows(flows: list[Flow]) -> list[tuple[str, ...]]:
     """The rows of the table of jobs, by their stages; the first one has the heads."""
     rows = []
     for flow in flows:
-        needs = {name: [need for need in texts(part(flow.jobs, name).get("needs")) if need in flow.jobs] for name in flow.jobs}
+        needs = {
+            name: [need for need in texts(part(flow.jobs, name).get("needs")) if need in flow.jobs]
+            for name in flow.jobs
+        }
         stage = dict.fromkeys(needs, 0)
         for _ in needs:
             stage = {name: max((stage[need] + 1 for need in needs[name]), default=0) for name in needs}
         title = one_line(str(flow.document.value.get("name") or flow.name))
-        rows += [(str(stage[name]), name, one_line(str(part(flow.jobs, name).get("name") or name)), title, flow.name, ",".join(flow.events))
-                 for name in needs]
-    return [("Stage", "Job ID", "Job name", "Workflow name", "Workflow file", "Events"), *sorted(rows, key=lambda row: int(row[0]))]
+        rows += [
+            (
+                str(stage[name]),
+                name,
+                one_line(str(part(flow.jobs, name).get("name") or name)),
+                title,
+                flow.name,
+                ",".join(flow.events),
+            )
+            for name in needs
+        ]
+    return [
+        ("Stage", "Job ID", "Job name", "Workflow name", "Workflow file", "Events"),
+        *sorted(rows, key=lambda row: int(row[0])),
+    ]

@@ -1,9 +1,9 @@
 """Finds what GitHub refuses in a workflow before it starts anything: keys, values, events, ids, contexts.
 
 `syntax.json` has the published syntax: `kinds` of values, `events` with their keys and activity types, and
-the `contexts` that texts at a place may name. A kind has `keys` (key -> kind), `others` (the kind of all other
-keys), `list` (the kind of items) and `scalar` (a form of texts, or the words that are allowed). `KIND @PLACE`
-allows expressions over the contexts of the place. Where the published syntax leaves doubt, nothing is
+the `contexts` that texts at a place may name. A kind has `keys` (key -> kind), `others` (the kind of all
+other keys), `list` (the kind of items) and `scalar` (a form of texts, or the words that are allowed). `KIND
+@PLACE` allows expressions over the contexts of the place. Where the published syntax leaves doubt, nothing is
 refused.
 """
 from __future__ import annotations
@@ -34,12 +34,17 @@ FIELDS = (("minute", 0, 59, ""), ("hour", 0, 23, ""), ("day of the month", 1, 31
 @functools.lru_cache(maxsize=None)
 def tables() -> dict[str, Any]:
     """The published syntax."""
-    return json.loads((Path(__file__).parent / "syntax.json").read_text(encoding="utf-8"))
+    found: dict[str, Any] = json.loads((Path(__file__).parent / "syntax.json").read_text(encoding="utf-8"))
+    return found
 
 
 def faults(document: Document) -> list[Note]:
     """What GitHub refuses in a workflow, by lines."""
     checker = Checker(document)
+    checker.found += [
+        Note(line, "GitHub knows anchors and aliases, but no merge key `<<`: write the keys out")
+        for line in document.merges
+    ]
     checker.walk(document.value, "workflow", ())
     jobs = part(document.value, "jobs")
     checker.check_once(("jobs",), [(name, name) for name in jobs], "the id of a job")
@@ -78,17 +83,17 @@ class Checker:
         self.document = document
         self.found: list[Note] = []
         self.kinds, self.events, self.contexts = (tables()[name] for name in ("kinds", "events", "contexts"))
-        self.forms: dict[str, Callable[[str, tuple], None]] = {
+        self.forms: dict[str, Callable[[str, tuple[Any, ...]], None]] = {
             "id": self.check_id, "event": self.check_event, "cron": self.check_cron,
             "action reference": self.check_action, "workflow reference": self.check_workflow}
 
-    def refuse(self, path: tuple, text: str) -> None:
+    def refuse(self, path: tuple[Any, ...], text: str) -> None:
         """Keeps a fault of a place."""
         fronts = (path[:end] for end in range(len(path), -1, -1))
         line = next((self.document.lines[front] for front in fronts if front in self.document.lines), 1)
         self.found.append(Note(line, f"{'.'.join(map(str, path))}: {text}" if path else text))
 
-    def walk(self, value: Any, kind: str, path: tuple, place: str = "") -> None:
+    def walk(self, value: Any, kind: str, path: tuple[Any, ...], place: str = "") -> None:
         """Checks a value of a kind, and what is in it."""
         name, _, own = kind.partition(" @")
         place, rule = own or place, self.kinds[name]
@@ -106,11 +111,11 @@ class Checker:
             for at, one in enumerate(value):
                 self.walk(one, rule["list"] if rule["list"] in self.kinds else name, (*path, at), place)
         elif isinstance(value, (dict, list)):
-            what = "map" if isinstance(value, dict) else "list"
+            what = "mapping" if isinstance(value, dict) else "list"
             self.refuse(path, f"GitHub expects {self.wanted(rule)} here, not a {what}")
         elif value is None:
             if name in ("jobs", "own job", "steps", "no step", "runs-on", "on"):
-                self.refuse(path, f"nothing is here: GitHub expects {self.wanted(rule)}")
+                self.refuse(path, f"a value is missing: GitHub expects {self.wanted(rule)}")
         elif "scalar" in rule:
             self.check_scalar(value, rule["scalar"], path, place)
         else:
@@ -119,16 +124,16 @@ class Checker:
     @staticmethod
     def wanted(rule: dict[str, Any]) -> str:
         """The forms of a kind in words."""
-        forms = ["a map"] if {"keys", "others", "events", "choose"} & set(rule) else []
+        forms = ["a mapping"] if {"keys", "others", "events", "choose"} & set(rule) else []
         forms += ["a list"] if "list" in rule else []
         one = rule.get("scalar")
         if isinstance(one, list):
             forms.append(f"one of {', '.join(one)}")
         elif one:
-            forms.append({"truth": "true or false", "number": "a number"}.get(one, "a text"))
+            forms.append({"truth": "true or false", "number": "a number"}.get(one, "a string"))
         return " or ".join(forms)
 
-    def check_map(self, value: dict[str, Any], name: str, rule: dict[str, Any], path: tuple,
+    def check_map(self, value: dict[str, Any], name: str, rule: dict[str, Any], path: tuple[Any, ...],
                   place: str = "") -> None:
         """Checks the keys of a map, and what they hold."""
         keys = rule.get("keys", {})
@@ -157,7 +162,7 @@ class Checker:
             return f"GitHub knows no key `{short(key)}` of {OWNERS[name]}"
         return f"GitHub knows no key `{short(key)}` here{near(key, keys) or '; there are ' + ', '.join(keys)}"
 
-    def check_events(self, event: str, value: Any, path: tuple) -> None:
+    def check_events(self, event: str, value: Any, path: tuple[Any, ...]) -> None:
         """Checks an event and its filters."""
         if event not in self.events:
             self.check_event(event, path)
@@ -169,7 +174,7 @@ class Checker:
         if value is None:
             return
         if not isinstance(value, dict):
-            self.refuse(path, "GitHub expects a map or nothing here")
+            self.refuse(path, "GitHub expects a mapping or nothing here")
             return
         self.check_map(value, "event", rule, path, "")
         for key in FILTERS:
@@ -181,7 +186,7 @@ class Checker:
                 guess = near(one, rule["types"])
                 self.refuse((*path, "types"), f"{event} has no activity `{short(one)}`{guess}")
 
-    def check_scalar(self, value: Any, form: Any, path: tuple, place: str) -> None:
+    def check_scalar(self, value: Any, form: Any, path: tuple[Any, ...], place: str) -> None:
         """Checks a scalar without an expression, or a condition."""
         text = value if isinstance(value, str) else text_of(value)
         if form == "condition":
@@ -197,49 +202,49 @@ class Checker:
         elif form in self.forms:
             self.forms[form](text, path)
 
-    def check_id(self, text: str, path: tuple) -> None:
+    def check_id(self, text: str, path: tuple[Any, ...]) -> None:
         """Checks an id of a job or a step."""
         if not ID.fullmatch(text):
-            self.refuse(path, f"the id `{short(text)}` has a sign that GitHub does not take: an id has "
+            self.refuse(path, f"the id `{short(text)}` has a character that GitHub rejects: an id has "
                               "letters, digits, - and _, and begins with a letter or _")
 
-    def check_event(self, text: str, path: tuple) -> None:
+    def check_event(self, text: str, path: tuple[Any, ...]) -> None:
         """Checks the name of an event."""
         if text not in self.events:
             self.refuse(path, f"GitHub knows no event `{short(text)}`{near(text, self.events)}")
 
-    def check_cron(self, text: str, path: tuple) -> None:
+    def check_cron(self, text: str, path: tuple[Any, ...]) -> None:
         """Checks the time of a schedule."""
         why = why_no_cron(text)
         if why:
             self.refuse(path, f"`{short(text)}` is no time of a schedule: {why}")
 
-    def check_action(self, text: str, path: tuple) -> None:
+    def check_action(self, text: str, path: tuple[Any, ...]) -> None:
         """Checks what a step uses."""
         if has_expression(text):
             self.refuse(path, "GitHub evaluates no expression here: write the action's name and ref")
         elif not text.startswith((".", "docker://")) and not re.fullmatch(r"[^/@\s]+/[^@\s]+@\S+", text):
             remedy = f": write {short(text)}@REF, as @v4" if re.fullmatch(r"[^/@\s]+/[^@\s]+", text) else ""
             forms = "OWNER/NAME[/PATH]@REF, ./PATH or docker://IMAGE"
-            self.refuse(path, f"`{short(text)}` has not the form {forms}{remedy}")
+            self.refuse(path, f"`{short(text)}` does not have the form {forms}{remedy}")
 
-    def check_workflow(self, text: str, path: tuple) -> None:
+    def check_workflow(self, text: str, path: tuple[Any, ...]) -> None:
         """Checks which workflow a job calls."""
         if has_expression(text):
             self.refuse(path, "GitHub evaluates no expression here: write the workflow's file and ref")
         elif text.startswith("./") and re.search(r"\.ya?ml@", text):
             self.refuse(path, "a workflow of the repository is called without @REF")
         elif not text.startswith("./") and not re.fullmatch(r"[^/@\s]+/[^/@\s]+/[^@\s]+@\S+", text):
-            self.refuse(path, f"`{short(text)}` has not the form OWNER/NAME/PATH@REF or ./PATH")
+            self.refuse(path, f"`{short(text)}` does not have the form OWNER/NAME/PATH@REF or ./PATH")
 
-    def check_texts(self, value: Any, place: str, path: tuple) -> None:
+    def check_texts(self, value: Any, place: str, path: tuple[Any, ...]) -> None:
         """Checks the expressions in all texts of a value."""
         for key, inner in members(value):
             self.check_texts(inner, place, (*path, key))
         if isinstance(value, str) and place and has_expression(value):
             self.check_text(value, place, path)
 
-    def check_text(self, text: str, place: str, path: tuple) -> None:
+    def check_text(self, text: str, place: str, path: tuple[Any, ...]) -> None:
         """Checks the contexts that a text names, and that hashFiles is at a step."""
         known, all_known = self.contexts[place], {name for names in self.contexts.values() for name in names}
         for expression in PIECE.findall(text):
@@ -252,7 +257,7 @@ class Checker:
             if "hashfiles" in calls and place not in OF_STEPS:
                 self.refuse(path, "hashFiles can only be called in a step")
 
-    def check_once(self, path: tuple, names: list[tuple[Any, str]], what: str) -> None:
+    def check_once(self, path: tuple[Any, ...], names: list[tuple[Any, str]], what: str) -> None:
         """Checks that no two ids are the same but for their case."""
         seen: dict[str, str] = {}
         for key, name in names:

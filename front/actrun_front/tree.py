@@ -1,4 +1,5 @@
-"""The repository: what git knows of it, the work folders of executions, and the copy of the working tree in them."""
+"""The repository: what git knows of it, the work folders of executions, and the copy of the working tree in
+them."""
 from __future__ import annotations
 
 import contextlib
@@ -23,13 +24,19 @@ GITHUB = "github.com"
 URLS = [re.compile(start + r"/*(?:[^/]+/)*(?P<owner>[^/]+)/(?P<name>[^/]+?)(?:\.git)?/*") for start in (
     r"(?P<scheme>https?|ssh|git|git\+ssh)://(?:[^/]*@)?(?P<host>\[[^]]+\]|[^/:@\[\]]+)(?P<port>:\d+)?/",
     r"(?P<scheme>)(?:[^@/\[\]]+@)?(?P<host>\[[^]]+\]|[^@/:\[\]]{2,})(?P<port>):(?!//)")]
-# folders of the steps, and in `private` contexts, workflows, plan, record and diagrams, which may hold secrets
-FOLDERS = ("private", "play", *(f"play/{name}" for name in ("tree", "files", "temp", "tools", "tmp", "bin", "stubs", "artifacts")))
+# folders of the steps, and in `private` contexts, workflows, plan, record and diagrams, which may hold
+# secrets
+FOLDERS = (
+    "private",
+    "play",
+    *(f"play/{name}" for name in ("tree", "files", "temp", "tools", "tmp", "bin", "stubs", "artifacts")),
+)
 
 
 @dataclass(frozen=True)
 class Facts:
-    """The state of a working tree and where it is hosted. What is not known is empty."""
+    """The state of a working tree and where it is hosted, else as if its actor owned it on GitHub. What is
+    not known is empty."""
 
     top: Path
     actor: str = ""
@@ -40,7 +47,8 @@ class Facts:
     branch: str = ""         # empty on a detached head
     ref: str = ""            # the full name of the branch, or of the tag of a detached head
     default_branch: str = "main"
-    heads: dict[str, str] = field(default_factory=dict)  # branch, that of `origin` before one's own -> its commit
+    # branch, that of `origin` before one's own -> its commit
+    heads: dict[str, str] = field(default_factory=dict)
     server: str = f"https://{GITHUB}"
     owner: str = ""
     name: str = ""
@@ -49,7 +57,8 @@ class Facts:
 
 
 def find_project(start: Path, top: Path) -> Path:
-    """The nearest folder from `start` up to the repository's top that has workflows; the top where none has."""
+    """The nearest folder from `start` up to the repository's top that has workflows; the top where none
+    has."""
     start, top = start.resolve(), top.resolve()
     below = [folder for folder in (start, *start.parents) if top in folder.parents]
     return next((folder for folder in below if (folder / ".github" / "workflows").is_dir()), top)
@@ -58,24 +67,55 @@ def find_project(start: Path, top: Path) -> Path:
 def read_facts(top: Path, repository: bool, nested: bool = False) -> Facts:
     """The facts of the working tree with that top."""
     actor, mail = setting(top, "github.user") or os.environ.get("USER") or "user", setting(top, "user.email")
+    own = (re.sub(r"[^\w.-]+", "-", actor), re.sub(r"[^\w.-]+", "-", top.name))
     if not repository:
-        return Facts(top, actor, mail)
+        return Facts(top, actor, mail, owner=own[0], name=own[1], full_name="/".join(own))
     branch = git(top, "symbolic-ref", "--quiet", "--short", "HEAD") or ""
     tag = "" if branch else git(top, "describe", "--tags", "--exact-match", "HEAD") or ""
-    found = git(top, "for-each-ref", "--format=%(objectname) %(refname) %(symref)", "refs/heads", "refs/remotes/origin") or ""
+    found = (
+        git(
+            top,
+            "for-each-ref",
+            "--format=%(objectname) %(refname) %(symref)",
+            "refs/heads",
+            "refs/remotes/origin",
+        )
+        or ""
+    )
     rows = [line.split(" ") for line in found.splitlines()]
     heads = {re.sub("^refs/(heads|remotes/origin)/", "", name): commit for commit, name, _ in rows}
-    of_origin = next((target.removeprefix("refs/remotes/origin/") for _, name, target in rows if name == "refs/remotes/origin/HEAD"), "")
+    of_origin = next(
+        (
+            target.removeprefix("refs/remotes/origin/")
+            for _, name, target in rows
+            if name == "refs/remotes/origin/HEAD"
+        ),
+        "",
+    )
     # the remote `origin`, else that of the branch, else the first one
     remotes = (git(top, "remote") or "").splitlines()
     wanted = ["origin", setting(top, f"branch.{branch}.remote") if branch else None, *remotes]
     remote = next((name for name in wanted if name in remotes), None)
     server, owner, name = parse_remote((git(top, "remote", "get-url", remote) if remote else None) or "")
+    web = f"{server}/{owner}/{name}" if owner else ""
+    owner, name = (owner, name) if owner else own
     return Facts(
-        top, actor, mail, True, nested, git(top, "rev-parse", "--verify", "--quiet", "HEAD") or "", branch,
+        top,
+        actor,
+        mail,
+        True,
+        nested,
+        git(top, "rev-parse", "--verify", "--quiet", "HEAD") or "",
+        branch,
         f"refs/heads/{branch}" if branch else f"refs/tags/{tag}" if tag else "",
-        of_origin or next((name for name in ("main", "master") if name in heads), branch or "main"), heads, server, owner, name,
-        f"{owner}/{name}" if owner else "", f"{server}/{owner}/{name}" if owner else "")
+        of_origin or next((name for name in ("main", "master") if name in heads), branch or "main"),
+        heads,
+        server,
+        owner,
+        name,
+        f"{owner}/{name}",
+        web,
+    )
 
 
 def parse_remote(url: str) -> tuple[str, str, str]:
@@ -86,7 +126,11 @@ def parse_remote(url: str) -> tuple[str, str, str]:
     host = found["host"].lower()
     # an alias of ~/.ssh/config has no dot
     host = GITHUB if "." not in host or host in ("ssh.github.com", "www.github.com") else host
-    return f"https://{host}" + (found["port"] or "" if found["scheme"].startswith("http") else ""), found["owner"], found["name"]
+    return (
+        f"https://{host}" + (found["port"] or "" if found["scheme"].startswith("http") else ""),
+        found["owner"],
+        found["name"],
+    )
 
 
 def cache_root() -> Path:
@@ -102,7 +146,9 @@ def make_root() -> Path:
         if root.stat().st_mode & 0o077:
             root.chmod(0o700)
     except PermissionError:
-        raise Problem(f"{root}: this folder belongs to somebody else: name another place by the variable XDG_CACHE_HOME", 3) from None
+        raise Problem(
+            f"{root}: this directory belongs to somebody else: set XDG_CACHE_HOME to another", 3
+        ) from None
     return root
 
 
@@ -122,22 +168,29 @@ class Room:
     lock: IO[str]
 
     def __post_init__(self) -> None:
-        self.play = self.folder / "play"             # the folder of `run --work`: step files, and below it what else steps see
-        self.tree = self.play / "tree" / self.name   # the copy of the working tree, or a link to it, in a folder of its own as on GitHub
+        # the folder of `run --work`: step files, and below it what else steps see
+        self.play = self.folder / "play"
+        # the copy of the working tree, or a link to it, in a folder of its own as on GitHub
+        self.tree = self.play / "tree" / self.name
         self.private = self.folder / "private"
-        self.objects = self.folder / "objects"       # links to the folders in which the repository keeps its objects
-        self.source = self.folder / "source" / self.name  # what actions/checkout reads, which steps cannot write
-        self.files = self.tree                       # where the copy of the working tree is: there or in `source`
+        # links to the folders in which the repository keeps its objects
+        self.objects = self.folder / "objects"
+        # what actions/checkout reads, which steps cannot write
+        self.source = self.folder / "source" / self.name
+        # where the copy of the working tree is: there or in `source`
+        self.files = self.tree
         self.identity = files.identity(self.folder) if self.folder.exists() else None
 
 
-def make_room(parent: Path, name: str, keep: Path | None = None) -> Room:
-    """A new folder for one execution. Nobody else can read it, and no other execution removes it while it is in use."""
-    folder = keep.absolute() if keep else parent / f"{short_name(name)}-{time.strftime('%Y%m%d-%H%M%S')}-{secrets.token_hex(3)}"
+def make_room(parent: Path, name: str, keep: Path | None = None, place: Path | None = None) -> Room:
+    """A new folder for one execution, `place` if that is given. Nobody else can read it, and no other
+    execution removes it while it is in use."""
+    named = place or (keep.absolute() if keep else None)
+    folder = named or parent / f"{short_name(name)}-{time.strftime('%Y%m%d-%H%M%S')}-{secrets.token_hex(3)}"
     if folder.exists() and (not folder.is_dir() or any(folder.iterdir())):
-        raise Problem(f"--keep {keep}: this is there already and not empty: name a new folder")
+        raise Problem(f"--keep {keep}: this exists and is not empty: name a new directory")
     make_root()
-    if keep:
+    if keep or place and place.parent != parent:
         return fill_room(folder, short_name(name), 0)
     parent.mkdir(parents=True, exist_ok=True)
     with keeping.held(parent):
@@ -145,7 +198,7 @@ def make_room(parent: Path, name: str, keep: Path | None = None) -> Room:
 
 
 def fill_room(folder: Path, name: str, number: int) -> Room:
-    """Makes the folders of an execution, and locks them. Where that fails, nothing is left."""
+    """Makes the folders of an execution, and locks them. If that fails, nothing is left."""
     folder.mkdir(mode=0o700, parents=True, exist_ok=True)
     try:
         folder.chmod(0o700)
@@ -181,16 +234,18 @@ def remove(folder: Path, known: tuple[int, int] | None = None) -> None:
 
 
 def copy_tree(facts: Facts, room: Room, in_place: bool = False, named: tuple[Path, ...] = ()) -> list[str]:
-    """Copies the working tree into the room, with links, modes and times, and gives what was left out, a sentence each.
-    With `in_place` a link to it is made. `named` are places of --bind."""
+    """Copies the working tree into the room, with links, modes and times, and gives what was left out, a
+    sentence each. With `in_place` a link to it is made. `named` are places of --bind."""
     left: list[str] = []
     if in_place and os.fsencode(facts.top).decode("utf-8", "replace") != str(facts.top):
-        raise Problem(f"--in-place {facts.top}: the program takes names in UTF-8 alone: leave --in-place out")
+        raise Problem(f"--in-place {facts.top}: the program takes only names in UTF-8: leave --in-place out")
     if in_place:
         room.tree.symlink_to(facts.top)
         return left
     if not facts.repository and facts.top in (Path.home(), Path("/")):
-        raise Problem(f"{facts.top} is no repository, and too much to copy: name a folder by --directory DIR")
+        raise Problem(
+            f"{facts.top} is no repository, and too much to copy: name a directory by --directory DIR"
+        )
     for folder in {room.tree, room.files}:
         folder.mkdir(parents=True)
     if not facts.repository:
@@ -198,24 +253,44 @@ def copy_tree(facts: Facts, room: Room, in_place: bool = False, named: tuple[Pat
         return left
     names = b"".join(b"./" + name + b"\0" for name in files_of(facts.top, left))
     if facts.nested:
-        left.append("the history: the folder is a part of a repository, so git knows no commit in the copy")
+        left.append(
+            "the history: the directory is a part of a repository, so git knows no commit in the copy"
+        )
     else:
         copy_repository(facts.top, room, named)
-    copy(facts.top, ["xargs", "-0", "-r", "cp", "-d", "--reflink=auto", "--preserve=mode,timestamps", "--parents", "-t", room.files, "--"], names)
+    copy(
+        facts.top,
+        [
+            "xargs",
+            "-0",
+            "-r",
+            "cp",
+            "-d",
+            "--reflink=auto",
+            "--preserve=mode,timestamps",
+            "--parents",
+            "-t",
+            room.files,
+            "--",
+        ],
+        names,
+    )
     return left
 
 
 def copy(top: Path, words: list[str | Path], names: bytes = b"") -> None:
     """Executes a command that copies files of a folder; blocks are shared where the file system can."""
-    words = [of_system(word, top) if word in ("cp", "xargs") else word for word in words]
-    answer = subprocess.run(words, cwd=top, input=names, capture_output=True, check=False, env={**os.environ, "LC_ALL": "C"})
+    own = [of_system(str(word), top) if word in ("cp", "xargs") else word for word in words]
+    answer = subprocess.run(
+        own, cwd=top, input=names, capture_output=True, check=False, env={**os.environ, "LC_ALL": "C"}
+    )
     text = check_room(answer)
     if answer.returncode != 0:
         raise Problem(f"the working tree {top} cannot be copied: {text.partition(chr(10))[0]}: change the rights, or name the file in .gitignore", 3)
 
 
 def check_room(answer: subprocess.CompletedProcess[bytes]) -> str:
-    """What a command said on standard error. Raises OSError where the cache has no room for what it writes."""
+    """What a command said on standard error. Raises OSError if the cache has no room for what it writes."""
     text = answer.stderr.decode("utf-8", "replace").strip()
     known = (errno.ENOSPC, errno.EDQUOT) if answer.returncode else ()
     number = next((number for number in known if os.strerror(number) in text), 0)
@@ -227,10 +302,12 @@ def check_room(answer: subprocess.CompletedProcess[bytes]) -> str:
 def files_of(top: Path, left: list[str], prefix: bytes = b"") -> Iterator[bytes]:
     """The names of the files that git tracks or would add, those of submodules among them, from the top."""
     root = os.path.realpath(os.fsencode(top))
-    real = functools.lru_cache(None)(lambda folder: os.path.realpath(folder) == folder)
+    real = functools.lru_cache(None)(lambda folder: bool(os.path.realpath(folder) == folder))
     answer = ask(top, "ls-files", "-co", "--exclude-standard", "-z")
     if answer.returncode != 0:
-        raise Problem(f"{top}: git cannot list the files: {answer.stderr.decode(errors='replace').strip()}", 3)
+        raise Problem(
+            f"{top}: git cannot list the files: {answer.stderr.decode(errors='replace').strip()}", 3
+        )
     for name in dict.fromkeys(filter(None, answer.stdout.split(b"\0"))):
         path = os.path.join(root, name)
         if name.endswith(b"/"):
@@ -256,12 +333,21 @@ def files_of_module(top: Path, left: list[str], prefix: bytes) -> Iterator[bytes
 
 
 def copy_repository(top: Path, room: Room, named: tuple[Path, ...] = ()) -> None:
-    """Makes the copy a repository at the same commit. It reads the objects through links in the room, and can write none of them.
-    Of the configuration it has the remotes without passwords, and how files are compared. `named` are places of --bind."""
+    """Makes the copy a repository at the same commit. It reads the objects through links in the room, and can
+    write none of them. Of the configuration it has the remotes without passwords, and how files are compared.
+    `named` are places of --bind."""
     form, folder = git(top, "rev-parse", "--show-object-format") or "sha1", room.files / ".git"
     check_room(make(room.files, *([f"--object-format={form}"] if form != "sha1" else [])))
     names = ("objects", "HEAD", "packed-refs", "refs", "index", "shallow", "info")
-    found = git(top, "rev-parse", *(word for name in names for word in ("--git-path", name)), "--shared-index-path") or ""
+    found = (
+        git(
+            top,
+            "rev-parse",
+            *(word for name in names for word in ("--git-path", name)),
+            "--shared-index-path",
+        )
+        or ""
+    )
     objects, *paths = [top / name for name in found.split("\n") if name]
     copy(top, ["cp", "-a", "--", *(path for path in paths if path.exists()), folder])
     room.objects.mkdir()
@@ -274,7 +360,8 @@ def copy_repository(top: Path, room: Room, named: tuple[Path, ...] = ()) -> None
 
 
 def write_config(top: Path, file: Path) -> None:
-    """Adds the remotes without passwords to the configuration of the copy, how files are compared, and nothing else of the user's."""
+    """Adds the remotes without passwords to the configuration of the copy, how files are compared, and
+    nothing else of the user's."""
     entries = [("core.checkstat", "minimal"), ("core.trustctime", "false"), ("gc.auto", "0")]
     kept = r"core\.(autocrlf|eol|filemode|symlinks|ignorecase)|remote\.[^\n]*\.(url|fetch)"
     entries += [entry for entry in settings(top) if re.fullmatch(kept, entry[0])]

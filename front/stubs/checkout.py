@@ -1,4 +1,5 @@
-"""Replaces actions/checkout: it fills the empty workspace; with `--workspace full` or `--in-place` the tree is there already."""
+"""Replaces actions/checkout: it fills the empty workspace; with `--workspace full` or `--in-place` the tree
+is there already."""
 
 from __future__ import annotations
 
@@ -15,7 +16,9 @@ PROGRAM = "name a program for this step with --stub actions/checkout=PROGRAM"
 
 def known_to_git(*words: str) -> str:
     """What git answers about the tree, or nothing where it knows nothing or is not there."""
-    done = subprocess.run(["env", "git", *words], capture_output=True, text=True, cwd=step.folder(), check=False)
+    done = subprocess.run(
+        ["env", "git", *words], capture_output=True, text=True, cwd=step.folder(), check=False
+    )
     return done.stdout.strip() if done.returncode == 0 else ""
 
 
@@ -43,7 +46,9 @@ def check_folder(path: str, repository: str, fillable: bool) -> None:
     tree, folder = step.folder(), (step.folder() / path).resolve()
     if folder == tree and repository:
         own = os.environ.get("GITHUB_REPOSITORY") or "this repository"
-        step.fail(f"checkout brings no files of the repository {repository}: the tree is that of {own}; {PROGRAM}")
+        step.fail(
+            f"checkout brings no files of the repository {repository}: the tree is that of {own}; {PROGRAM}"
+        )
     if folder == tree:
         return
     if tree not in folder.parents:
@@ -51,13 +56,16 @@ def check_folder(path: str, repository: str, fillable: bool) -> None:
     if fillable and not is_present(folder):
         fill(folder)
     if not is_present(folder):
-        step.fail(f"checkout brings no files: the folder {path} is not in the tree. Put it there (git clone "
-                  f"{repository or 'this repository'} {path}), or {PROGRAM}")
-    print(f"the folder {path} is used as it is")
+        step.fail(
+            f"checkout brings no files: the directory {path} is not in the tree. Put it there (git clone "
+            f"{repository or 'this repository'} {path}), or {PROGRAM}"
+        )
+    print(f"the directory {path} is used as it is")
 
 
 def main(_: str) -> None:
-    """Fills the workspace, or checks that the tree serves for what the step asks, and says what commit it has."""
+    """Fills the workspace, or checks that the tree serves for what the step asks, and says what commit it
+    has."""
     repository, ref = step.given("repository"), step.given("ref")
     if repository.lower() == os.environ.get("GITHUB_REPOSITORY", "").lower():
         repository = ""
@@ -71,7 +79,9 @@ def main(_: str) -> None:
     if not same:
         step.warn(f"the ref {ref} is not checked out: the tree stays as it is, at {commit or 'no commit'}")
     modules = known_to_git("config", "--file", ".gitmodules", "--get-regexp", r"\.path$").splitlines()
-    empty = [line.split(" ", 1)[1] for line in modules if not is_present(step.folder() / line.split(" ", 1)[1])]
+    empty = [
+        line.split(" ", 1)[1] for line in modules if not is_present(step.folder() / line.split(" ", 1)[1])
+    ]
     if empty and step.given("submodules", "false").lower() != "false":
         step.warn(f"submodules are empty: {', '.join(empty)}; run git submodule update --init in the repository first")
     print(f"the tree is there, at {commit or 'no commit'}")

@@ -167,7 +167,7 @@ def fetch(source: pathlib.Path, target: pathlib.Path, want: Wanted, depth: int) 
             *(["+refs/tags/*:refs/tags/*"] if step.given_flag("fetch-tags") else []))
         return place or want.commit
     if (source / ".git" / "shallow").is_file():
-        step.warn("the local repository is shallow, so the whole history is not there: git fetch --unshallow")
+        step.warn("the local repository is shallow, so its history is incomplete: git fetch --unshallow")
     git(target, "fetch", *words, "origin", "+refs/heads/*:refs/remotes/origin/*", "+refs/tags/*:refs/tags/*")
     if place and commit_at(target, place) != want.commit:
         git(target, "fetch", "-q", "--no-tags", "origin", f"+{want.commit}:{place}")
@@ -269,17 +269,19 @@ def main(repository: str, remedy: str) -> None:
         there = source / path
         if target == workspace or not there.is_dir() or not any(there.iterdir()):
             where = path if path != "." else "PATH"
-            step.fail(f"checkout brings no files of the repository {repository}: only the local repository "
-                      f"is here. Put it into the folder {where} of the repository and name that by `path`, "
-                      f"or {remedy}")
+            step.fail(
+                f"checkout brings no files of the repository {repository}: only the local repository "
+                f"is here. Put it into the directory {where} of the repository and name that by `path`, "
+                f"or {remedy}"
+            )
         clear(target)
         copy(there, target)
-        print(f"the folder {path} of the repository takes the place of {repository}")
+        print(f"the directory {path} of the repository replaces {repository}")
         return
     if not (source / ".git").exists():
         clear(target)
         copy(source, target)
-        print("the folder is no repository: its files are there, without a commit")
+        print("the directory is no repository: its files are there, without a commit")
         step.set_output("ref", step.given("ref") or os.environ.get("GITHUB_REF", ""))
         return
     want = fill(source, target, step.given("ref"))

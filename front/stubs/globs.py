@@ -1,11 +1,13 @@
 """Paths as actions and hashFiles name them: `*`, `?`, `[..]`, `\\`, `**`, and `!` before what is left out.
 
-A pattern matches hidden files too, and all that is below a folder that it matches. The last pattern that matches decides.
+A pattern matches hidden files too, and all that is below a folder that it matches. The last pattern that
+matches decides.
 """
 
 from __future__ import annotations
 
 import functools
+import itertools
 import os
 import pathlib
 import re
@@ -15,7 +17,7 @@ from typing import Iterator
 try:
     from stubs.automaton import Test, wildcard_match
 except ImportError:  # (a stub starts as a program)
-    from automaton import Test, wildcard_match
+    from automaton import Test, wildcard_match  # type: ignore[no-redef]
 
 PART = re.compile(r"\\(?P<escaped>.)|(?P<star>\*)|(?P<any>\?)|\[(?P<set>.[^\]]*)\]|(?P<char>.)", re.DOTALL)
 
@@ -34,7 +36,8 @@ class Pattern:
         return (*self.segments, *(["*"] if self.folders_only else []), "**")
 
     def matches(self, path: tuple[str, ...]) -> bool:
-        """Whether a file matches, or a folder that it is in. As of the stars in a name, only the last `**` has to be tried again."""
+        """Whether a file matches, or a folder that it is in. As of the stars in a name, only the last `**`
+        has to be tried again."""
         whole, at, place, star, mark = self.whole, 0, 0, -1, 0
         while at < len(path):
             if place < len(whole) and whole[place] == "**":
@@ -53,13 +56,8 @@ class Pattern:
 @functools.lru_cache(maxsize=1 << 16)
 def fits(segment: str, name: str) -> bool:
     """Whether a name fits a segment."""
-    literal, tests = translated(segment)[1], translated(segment)[0]
+    tests, literal = translated(segment)
     return name == literal if literal is not None else segment == "*" or wildcard_match(list(tests), name)
-
-
-def any_character(_: str) -> bool:
-    """The test that each character passes."""
-    return True
 
 
 @functools.lru_cache(maxsize=None)
@@ -73,22 +71,26 @@ def translated(segment: str) -> tuple[tuple[Test | None, ...], str | None]:
         if names[-1]:
             tests.append(names[-1].__eq__)
         elif inner:
-            of_set = "^" * (inner[:1] in ("!", "^")) + re.sub(r"([\\\[&~|])", r"\\\1", re.sub(r"^[!^]", "", inner))
+            of_set = "^" * (inner[:1] in ("!", "^")) + re.sub(
+                r"([\\\[&~|])", r"\\\1", re.sub(r"^[!^]", "", inner)
+            )
             try:
                 tests.append(re.compile(f"[{of_set}]", re.DOTALL).fullmatch)  # type: ignore[arg-type]
             except re.error:  # a range as `[z-a]` means itself
                 return (), segment
         elif not part["star"]:
-            tests.append(any_character)
+            tests.append(lambda _: True)
         elif not tests or tests[-1] is not None:
             tests.append(None)
     return tuple(tests), None if None in names else "".join(filter(None, names))
 
 
 def starts(patterns: list[Pattern]) -> list[tuple[str, ...]]:
-    """Where the search begins, in order: the literal beginnings of the patterns, without those that are below others."""
-    names = [[translated(segment)[1] for segment in pattern.segments] + [None] for pattern in patterns if not pattern.negative]
-    candidates = list(dict.fromkeys(tuple(one[:one.index(None)]) for one in names))
+    """Where the search begins, in order: the literal beginnings of the patterns, without those that are below
+    others."""
+    names = [[translated(one)[1] or "" for one in pattern.segments]
+             for pattern in patterns if not pattern.negative]
+    candidates = list(dict.fromkeys(tuple(itertools.takewhile(bool, one)) for one in names))
     return [path for path in candidates if not any(path[:end] in candidates for end in range(len(path)))]
 
 
@@ -98,7 +100,8 @@ def is_chosen(patterns: list[Pattern], path: tuple[str, ...]) -> bool:
 
 
 def segments_of(text: str, tree: pathlib.Path) -> tuple[str, ...]:
-    """The segments of a path from the root: `~` is the home folder, another one that is not absolute starts at the tree."""
+    """The segments of a path from the root: `~` is the home folder, another one that is not absolute starts
+    at the tree."""
     bases = {f"{tree}/": str(tree), "~/": str(pathlib.Path.home().resolve()), "/": "", "": str(tree)}
     start = next(start for start in bases if f"{text}/".startswith(start))
     base = re.sub(r"([\\*?\[])", r"\\\1", bases[start])
@@ -107,7 +110,11 @@ def segments_of(text: str, tree: pathlib.Path) -> tuple[str, ...]:
 
 def read_patterns(lines: list[str], tree: pathlib.Path) -> list[Pattern]:
     """The patterns of lines that are no comments, over whole paths."""
-    return [Pattern(segments_of(line.lstrip("!").strip(), tree), line.startswith("!")) for line in lines if line[0] != "#"]
+    return [
+        Pattern(segments_of(line.lstrip("!").strip(), tree), line.startswith("!"))
+        for line in lines
+        if line[0] != "#"
+    ]
 
 
 def roots(patterns: list[Pattern]) -> list[pathlib.Path]:
@@ -116,7 +123,8 @@ def roots(patterns: list[Pattern]) -> list[pathlib.Path]:
 
 
 def below(place: pathlib.Path, hidden: bool, above: tuple[pathlib.Path, ...] = ()) -> Iterator[pathlib.Path]:
-    """The files at or below a place, by links too that lead to no folder above; without `hidden` none by a name with a dot before it."""
+    """The files at or below a place, by links too that lead to no folder above; without `hidden` none by a
+    name with a dot before it."""
     if place.is_file():
         yield place
     elif place.is_dir() and (real := place.resolve()) not in above:
@@ -127,7 +135,12 @@ def below(place: pathlib.Path, hidden: bool, above: tuple[pathlib.Path, ...] = (
 
 def files(patterns: list[Pattern], hidden: bool) -> list[pathlib.Path]:
     """All files that are matched, sorted."""
-    return sorted(file for root in roots(patterns) for file in below(root, hidden) if is_chosen(patterns, file.parts[1:]))
+    return sorted(
+        file
+        for root in roots(patterns)
+        for file in below(root, hidden)
+        if is_chosen(patterns, file.parts[1:])
+    )
 
 
 def tops(patterns: list[Pattern]) -> list[pathlib.Path]:

@@ -1,4 +1,5 @@
-"""Computes digests of hashFiles for the step after this one: of patterns in ACTRUN_HASH_N for the output hN."""
+"""Computes digests of hashFiles for the step after this one: of patterns in ACTRUN_HASH_N for the output
+hN."""
 
 from __future__ import annotations
 

@@ -2,8 +2,8 @@
 
 The words behind the text of `uses` come in pairs: `--folder` (one that begins with `./` is below the
 workspace), `--using`, a file for each phase, `--repository` and `--ref`. What the action saves as state is
-kept beside the file GITHUB_PATH, for each leg and each step that uses an action, and given to the phases that
-follow.
+kept next to the file GITHUB_PATH, for each leg and each step that uses an action, and given to the phases
+that follow.
 """
 
 from __future__ import annotations
@@ -81,8 +81,8 @@ def script_of(text: str, words: dict[str, str], phase: str) -> tuple[pathlib.Pat
 
 
 def find_node(using: str) -> str:
-    """The first `node` that is new enough for an action, else the first. Folders that the job's steps added to
-    PATH do not count: GitHub's runner has a `node` of its own."""
+    """The first `node` that is new enough for an action, else the first. Folders that the job's steps added
+    to PATH do not count: GitHub's runner has a `node` of its own."""
     asked, added = int(using[4:]), [""]
     try:
         with open(os.environ["GITHUB_PATH"], encoding="utf-8", errors="replace") as file:

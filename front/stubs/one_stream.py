@@ -1,8 +1,8 @@
 """Starts the program of a step with one pipe for standard output and error, and copies it on in order.
 
-GitHub's runner does so, too. A step that opens /dev/stderr again, as `tee /dev/stderr` does, then cuts nothing
-off. What the program left behind when it ended may hold the pipe: it is read as far as it is filled, and not
-waited for. A byte that is no UTF-8 becomes U+FFFD, since it would hide the whole log.
+GitHub's runner does so, too. A step that opens /dev/stderr again, as `tee /dev/stderr` does, then cuts
+nothing off. What the program left behind when it ended may hold the pipe: it is read as far as it is filled,
+and not waited for. A byte that is no UTF-8 becomes U+FFFD, since it would hide the whole log.
 
 With a sandbox the shim (shim.py) reads that pipe, by the class `Stream` from here. (Each step starts one of
 both: few modules are loaded.)
@@ -12,25 +12,77 @@ import _signal
 import codecs
 import os
 import select
+import stat
 import sys
+from _collections_abc import Callable  # (which os has loaded)
 
 SIZE = 1 << 16
 MOST_LEFT = 64     # pieces that are read of a pipe whose program has ended
 LOOKED_BACK = 4096  # bytes in which a cut log looks for the end of a line
-LONGEST = 1 << 16  # of a line that is looked at
+LONGEST = 1 << 17  # of a line that is looked at: the program refuses the value of a longer one
+PLAIN = b"ABCDEFGHIJKLMNOPQRSTUVWXYZabcdefghijklmnopqrstuvwxyz0123456789_-"
+BLOCKED = b"NODE_OPTIONS"  # a variable that no step sets for those behind it
+# the variables of GitHub's runner that a step sets for those behind it, and a workflow in `env`, without
+# effect
+KEPT = frozenset(f"{kind}_{name}".encode() for kind, names in (
+    ("GITHUB", "ACTION ACTOR ACTOR_ID API_URL BASE_REF EVENT_NAME EVENT_PATH GRAPHQL_URL HEAD_REF JOB REF REF_NAME "
+     "REF_PROTECTED REF_TYPE REPOSITORY REPOSITORY_ID REPOSITORY_OWNER REPOSITORY_OWNER_ID RETENTION_DAYS RUN_ATTEMPT "
+     "RUN_ID RUN_NUMBER SERVER_URL SHA TRIGGERING_ACTOR WORKFLOW WORKFLOW_REF WORKFLOW_SHA WORKSPACE"),
+    ("RUNNER", "ARCH ENVIRONMENT NAME OS TEMP TOOL_CACHE WORKSPACE")) for name in names.split())
+STAYS = b"::error::Can't store NODE_OPTIONS output parameter using '$GITHUB_ENV' command.\n"
 DISABLED = {"set-env": "GITHUB_ENV", "add-path": "GITHUB_PATH"}
 REFUSED = ("\n::error::Unable to process command '::{name}' successfully. The `{name}` command is disabled. "
            "Write to the file that {file} names, or set the variable ACTIONS_ALLOW_UNSECURE_COMMANDS to "
            "true.\n")
 
 
+def pairs_of(data: bytes) -> "list[tuple[bytes, bytes]]":
+    """The pairs of a file of outputs or variables: the name, if the line has one, and what is behind it."""
+    found: "list[tuple[bytes, list[bytes]]]" = []
+    delimiter = b""
+    for line in data.split(b"\n"):
+        if delimiter:
+            found[-1][1].append(line)
+            delimiter = b"" if line == delimiter else delimiter
+            continue
+        name = line.partition(b"=")[0].partition(b"<<")[0]
+        if line[len(name):len(name) + 2] == b"<<":
+            delimiter = line[len(name) + 2:]
+        found.append((b"", [line]) if name == line else (name, [line[len(name):]]))
+    return [(name, b"\n".join(lines)) for name, lines in found]
+
+
+def plain_names(data: bytes) -> bytes:
+    """A file of outputs with names as the program takes them: other signs than letters, digits, _ and - are
+    their numbers."""
+    signs = {sign: bytes([sign]) if sign in PLAIN else b"_x%02x_" % sign for sign in range(256)}
+    return b"\n".join(b"".join(map(signs.__getitem__, name)) + rest for name, rest in pairs_of(data))
+
+
+def unblocked(data: bytes) -> "tuple[bytes, bool]":
+    """A file of variables without what GitHub takes from no step, and whether it says so."""
+    if BLOCKED not in data.upper() and b"GITHUB_" not in data and b"RUNNER_" not in data:
+        return data, False
+    pairs = pairs_of(data)
+    kept = [(name, rest) for name, rest in pairs if name.upper() != BLOCKED]
+    text = b"\n".join(name + rest for name, rest in kept if name not in KEPT)
+    return text, len(kept) < len(pairs)
+
+
+def decoded(text: str) -> str:
+    """The value of a command."""
+    return text.replace("%0D", "\r").replace("%0A", "\n").replace("%25", "%")
+
+
 class Commands:
-    """Looks for commands that GitHub has disabled: a step that prints one fails."""
+    """Looks for `set-output`, and for commands that GitHub has disabled: a step that prints such a one
+    fails."""
 
     def __init__(self, allowed: bool) -> None:
         self.rest = b""     # of the last line, which is not whole yet
         self.resumes = ""   # the line that ends `stop-commands`
         self.allowed, self.failed = allowed, False
+        self.outputs: dict[str, str] = {}
 
     def seen(self, data: bytes) -> bytes:
         """What is added behind more output."""
@@ -41,7 +93,7 @@ class Commands:
             if end < 0:
                 break
             if not at or not 32 < data[at - 1] < 128:  # (nothing but spaces can be before it in its line)
-                added += self.line(data[data.rfind(b"\n", 0, at) + 1:end].decode("utf-8", "replace").strip())
+                added += self.line(data[data.rfind(b"\n", 0, at) + 1:end].decode("utf-8", "replace").lstrip())
             at = data.find(b"::", end)
         begin = data.rfind(b"\n") + 1
         self.rest = data[begin:begin + LONGEST]
@@ -50,15 +102,25 @@ class Commands:
     def line(self, line: str) -> str:
         """What is added behind a line."""
         if self.resumes:
-            self.resumes = "" if line == self.resumes else self.resumes
+            self.resumes = "" if line.rstrip() == self.resumes else self.resumes
         elif line.startswith("::stop-commands::"):
-            self.resumes = f"::{line[17:]}::"
-        elif line.startswith("::") and not self.allowed:
-            name = line[2:].partition("::")[0].partition(" ")[0].lower()
-            if name in DISABLED and "::" in line[2:]:
+            self.resumes = f"::{line[17:].rstrip()}::"
+        elif line.startswith("::"):
+            head, ends, value = line[2:].partition("::")
+            name, _, given = head.partition(" ")
+            if ends and name.lower() in DISABLED and not self.allowed:
                 self.failed = True
-                return REFUSED.format(name=name, file=DISABLED[name])
+                return REFUSED.format(name=name.lower(), file=DISABLED[name.lower()])
+            if ends and name.lower() == "set-output":
+                pairs = [pair.strip().partition("=") for pair in given.split(",")]
+                names = [text for key, _, text in pairs if key.lower() == "name" and text]
+                self.outputs.update((one, decoded(value.rstrip("\r"))) for one in names[:1])
         return ""
+
+    def pairs(self) -> bytes:
+        """The outputs that were set, as lines of the file GITHUB_OUTPUT."""
+        end = os.urandom(16).hex()
+        return "".join(f"{name}<<{end}\n{value}\n{end}\n" for name, value in self.outputs.items()).encode()
 
 
 class Stream:
@@ -140,11 +202,12 @@ class Lossy(Stream):
 
 
 def start(words: list[str], writer: int) -> int:
-    """Starts the program with the pipe for both streams; gives its number. A signal that ends steps reaches the
-    program too, which decides: it is ignored here from the start. (The prelude ignores SIGINT for this.)"""
+    """Starts the program with the pipe for both streams; gives its number. A signal that ends steps reaches
+    the program too, which decides: it is ignored here from the start. (The prelude ignores SIGINT for
+    this.)"""
     ends = (_signal.SIGINT, _signal.SIGTERM, _signal.SIGHUP)
     kept = [number for number in ends if _signal.signal(number, _signal.SIG_IGN) == _signal.SIG_IGN]
-    streams = (1, 2)
+    streams: "tuple[int, ...]" = (1, 2)
     try:
         child = os.fork()
         if child:
@@ -162,6 +225,21 @@ def start(words: list[str], writer: int) -> int:
         os.write(2, f"{words[0]}: {error.strerror}\n".encode())
     finally:
         os._exit(127)
+
+
+def settle(variable: str, change: "Callable[[bytes], bytes]") -> None:
+    """Changes the file that a variable names."""
+    try:
+        number = os.open(os.environ.get(variable, ""), os.O_RDWR | os.O_NOFOLLOW | os.O_NONBLOCK)
+    except OSError:  # (the step removed it)
+        return
+    with open(number, "rb+") as file:
+        old = file.read() if stat.S_ISREG(os.fstat(number).st_mode) else b""
+        new = change(old)
+        if new != old:
+            file.seek(0)
+            file.truncate()
+            file.write(new)
 
 
 def main(words: list[str]) -> int:
@@ -185,6 +263,17 @@ def main(words: list[str]) -> int:
             ended, status = os.waitpid(child, os.WNOHANG)
     os.set_blocking(reader, False)
     stream.finish(reader)
+    # (the file outweighs commands)
+    settle("GITHUB_OUTPUT", lambda old: plain_names(stream.commands.pairs() + old))
+    says: "list[bool]" = []
+
+    def taken(old: bytes) -> bytes:
+        new, is_said = unblocked(old)
+        says.append(is_said)
+        return new
+    settle("GITHUB_ENV", taken)
+    if any(says):
+        stream.put(STAYS)
     return 1 << 8 if stream.commands.failed and status == 0 else status
 
 

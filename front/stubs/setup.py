@@ -1,13 +1,14 @@
 """Replaces actions that install a tool: it is looked for in PATH, tool caches and packages.
 
-A version that is not there fails the step, which lists the installed versions; with --lenient another version serves.
+A version that is not there fails the step, which lists the installed versions; with --lenient another version
+serves.
 
 `actions.json` has an entry for each action with its `tools`. Of a tool: `programs`, the names of the program;
 `asked`, the inputs with the version (NAME-version or version if none is named; `@` is the action's ref);
 `files`, version files or inputs that name one; `names`, more programs to look for by the version that is
 asked for; `version`, the arguments that print its version; `links`, names under which later steps shall find
 a Python that makes a virtual environment, and arguments; `outputs` (NAME-version if none is named) and
-`variables`, by {version}, {path} and the like; `optional`, true where it is looked for only if a version is
+`variables`, by {version}, {path} and the like; `optional`, true if it is looked for only if a version is
 asked for.
 """
 
@@ -25,15 +26,22 @@ import step
 import versions
 
 # how a version file is read, by its name
-FORMS = {"go.mod": r"^go\s+(\S+)", "go.work": r"^go\s+(\S+)", "pyproject.toml": r"^requires-python\s*=\s*[\"'](.+?)[\"']",
-         "package.json": r'"engines"\s*:\s*\{[^}]*"node"\s*:\s*"([^"]+)"', ".tool-versions": r"^NAME(?:js|lang)?\s+(\S+)"}
+FORMS = {
+    "go.mod": r"^go\s+(\S+)",
+    "go.work": r"^go\s+(\S+)",
+    "pyproject.toml": r"^requires-python\s*=\s*[\"'](.+?)[\"']",
+    "package.json": r'"engines"\s*:\s*\{[^}]*"node"\s*:\s*"([^"]+)"',
+    ".tool-versions": r"^NAME(?:js|lang)?\s+(\S+)",
+}
 
 
 def asked_for(tool: dict, name: str, ref: str) -> str:
     """The version that the step asks for by an input, by the action's ref or by a version file; nothing if by
     none."""
     ref = re.sub(r"^([0-9a-f]{40}|master|main|v\d+)$", "", ref)
-    found = [ref if it == "@" else step.given(it) for it in tool.get("asked", f"{name}-version version").split()]
+    found = [
+        ref if it == "@" else step.given(it) for it in tool.get("asked", f"{name}-version version").split()
+    ]
     for it in tool.get("files", "").split():
         place = step.folder() / (it if "." in it else step.given(it))
         if "." not in it and step.given(it) and not any(found) and not place.is_file():
@@ -53,9 +61,15 @@ def named(forms: str, version: str) -> list[str]:
 def put_in_front(tool: dict, name: str, path: str, version: str) -> str:
     """Makes later steps find the program by its usual names, a Python in an environment of the leg. Returns
     its path there."""
-    folder, scripts = step.folder("RUNNER_TEMP") / f"actrun-{name}-{version or 'any'}-{step.numbers()[0]}", tool.get("links", {name: ""})
+    folder, scripts = step.folder(
+        "RUNNER_TEMP"
+    ) / f"actrun-{name}-{version or 'any'}-{step.numbers()[0]}", tool.get("links", {name: ""})
     if "links" in tool and not folder.exists():
-        subprocess.run([path, "-m", "venv", "--system-site-packages", "--without-pip", str(folder)], capture_output=True, check=False)
+        subprocess.run(
+            [path, "-m", "venv", "--system-site-packages", "--without-pip", str(folder)],
+            capture_output=True,
+            check=False,
+        )
     folder = folder / "bin"
     if (folder / name).exists():
         path = str(folder / name)
@@ -66,7 +80,9 @@ def put_in_front(tool: dict, name: str, path: str, version: str) -> str:
     for forms, words in scripts.items():
         folder.mkdir(parents=True, exist_ok=True)
         for place in [folder / it for it in named(forms, version) if not (folder / it).exists()]:
-            place.write_text(f'#!/bin/sh\nexec {shlex.join([path, *shlex.split(words)])} "$@"\n', encoding="utf-8")
+            place.write_text(
+                f'#!/bin/sh\nexec {shlex.join([path, *shlex.split(words)])} "$@"\n', encoding="utf-8"
+            )
             place.chmod(0o755)
     with open(os.environ["GITHUB_PATH"], "a", encoding="utf-8") as paths:
         paths.write(f"{folder}\n")
@@ -89,7 +105,7 @@ def of_java(version: str) -> str:
 
 
 def choose(found: list[tuple[str, str]], asked: str) -> tuple[str, str] | None:
-    """The program of the newest version that fits; where none is asked for, the first of all."""
+    """The program of the newest version that fits; the first of all if no version is requested."""
     fitting = [one for one in found if versions.fits(asked, one[1])] if asked else found[:1]
     return max(fitting, key=lambda one: versions.numbers(one[1])) if fitting else None
 
@@ -107,13 +123,15 @@ def missing(tool: dict, action: str, found: list[tuple[str, str]], asked: str,
     if not lenient:
         step.fail(f"{action}: {name} {asked} was requested; this machine has {has}. To get it: {get}. "
                   "To go on with another version: --lenient")
-    step.warn(f"{name} {asked} was requested; using {found[0][1] or 'another version'}, the installed version")
+    step.warn(
+        f"{name} {asked} was requested; using {found[0][1] or 'another version'}, the installed version"
+    )
     step.mark_another(f"{name} {found[0][1]} in place of {asked}")
     return found[0]
 
 
 def set_up(tool: dict, text: str, lenient: bool) -> None:
-    """Finds the tool, says which version is there, and sets the outputs; fails where it is missing."""
+    """Finds the tool, prints its version, and sets the outputs; fails if it is missing."""
     action, ref = step.split_action(text)
     name, whole = tool["programs"].split()[0], asked_for(tool, tool["programs"].split()[0], ref)
     if "optional" in tool and not whole:
@@ -126,7 +144,13 @@ def set_up(tool: dict, text: str, lenient: bool) -> None:
         print(f"{name} {version} ({path})", flush=True)
         path = put_in_front(tool, name, path, version)
     folder = os.path.dirname(path if "links" in tool else os.path.realpath(path))
-    values = {"version": version, "path": path, "folder": folder, "home": os.path.dirname(folder), "distribution": step.given("distribution")}
+    values = {
+        "version": version,
+        "path": path,
+        "folder": folder,
+        "home": os.path.dirname(folder),
+        "distribution": step.given("distribution"),
+    }
     for variable, forms in (("GITHUB_OUTPUT", tool.get("outputs", f"{name}-version={{version}}")),
                             ("GITHUB_ENV", tool.get("variables", ""))):
         for it in forms.split():
@@ -135,7 +159,10 @@ def set_up(tool: dict, text: str, lenient: bool) -> None:
 
 def main(text: str, lenient: str = "") -> None:
     """Sets up all tools of the action."""
-    table, action = json.loads((pathlib.Path(__file__).parent / "actions.json").read_text(encoding="utf-8")), step.split_action(text)[0]
+    table, action = (
+        json.loads((pathlib.Path(__file__).parent / "actions.json").read_text(encoding="utf-8")),
+        step.split_action(text)[0],
+    )
     entry = next(value for name, value in table.items() if name.lower() == action)
     if "says" in entry:
         print(f"{action} {entry['says']}")

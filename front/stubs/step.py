@@ -6,11 +6,21 @@ import os
 import pathlib
 import re
 import sys
+from types import TracebackType
 from typing import Callable, NoReturn
 
 
+def show_error(kind: type[BaseException], error: BaseException, trace: TracebackType | None) -> None:
+    """Shows an error that nobody foresaw. A signal that ends the step needs no words."""
+    if not issubclass(kind, KeyboardInterrupt):
+        sys.__excepthook__(kind, error, trace)
+
+
+sys.excepthook = show_error
+
+
 def given(name: str, default: str = "") -> str:
-    """The input of that name without blanks at its ends, or the default where it is missing or empty."""
+    """The input of that name without blanks at its ends, or the default if it is missing or empty."""
     return os.environ.get("INPUT_" + name.upper().replace(" ", "_"), "").strip() or default
 
 
@@ -43,7 +53,8 @@ def set_output(name: str, value: str, variable: str = "GITHUB_OUTPUT") -> None:
 
 
 def folder(variable: str = "GITHUB_WORKSPACE") -> pathlib.Path:
-    """The folder that a variable names, made where it is missing: if none is named, that of the repository, where steps start."""
+    """The directory that a variable names, made if missing; without the variable that of the repository,
+    where steps start."""
     place = pathlib.Path(os.environ[variable])
     place.mkdir(parents=True, exist_ok=True)
     return place.resolve()
@@ -68,7 +79,8 @@ def split_action(text: str) -> tuple[str, str]:
 
 
 def start(main: Callable[..., None]) -> None:
-    """Starts a stub with its arguments; an error of a file, or a variable that `actrun try` did not set, ends the step by its name."""
+    """Starts a stub with its arguments; an error of a file, or a variable that `actrun try` did not set, ends
+    the step by its name."""
     try:
         main(*sys.argv[1:])
     except OSError as error:
@@ -76,4 +88,4 @@ def start(main: Callable[..., None]) -> None:
     except KeyError as error:
         fail(f"the variable {error} is not set: `actrun try` starts this program")
     except Exception as error:  # (of what nobody foresaw)
-        fail(f"unforeseen: {type(error).__name__}: {error}; please report it to whom you have actrun from")
+        fail(f"unforeseen: {type(error).__name__}: {error}; please report it where you got actrun")

@@ -83,15 +83,12 @@ def fits_one(asked: str, version: str) -> bool:
     return low <= have < bumped(low, fixed)
 
 
-def ways_of(asked: str) -> list[list[str]]:
-    """The comparisons of a range that have to hold together, for each of its ways."""
-    spans = re.sub(r"(\S+)\s+-\s+(\S+)", r">=\1 <=\2", asked.strip())
-    return [re.split(r"[\s,]+", way.strip()) for way in re.sub(r"([<>=!~^])\s+", r"\1", spans).split("||")]
-
-
 def fits(asked: str, version: str) -> bool:
-    """Whether a version is what a range asks for."""
-    return any(all(fits_one(part, version or "0") for part in way) for way in ways_of(asked))
+    """Whether a version is what a range asks for: in one of its ways all comparisons hold."""
+    spans = re.sub(r"(\S+)\s+-\s+(\S+)", r">=\1 <=\2", asked.strip())
+    ways = re.sub(r"([<>=!~^])\s+", r"\1", spans).split("||")
+    return any(all(fits_one(part, version or "0") for part in re.split(r"[\s,]+", way.strip()))
+               for way in ways)
 
 
 def started(places: list[str], words: str) -> list[tuple[str, str]]:
@@ -118,18 +115,13 @@ def in_path(names: list[str]) -> list[str]:
     return [f"{folder}/{name}" for folder in folders if folder for name in names]
 
 
-def layout_of(folder: str) -> dict[str, str]:
-    """Where programs are in a folder that ACTRUN_TOOLS names: of the system, below a home folder, or a tool
-    cache."""
-    of_home = (layout for end, layout in HOMES.items() if folder.endswith(f"/{end}"))
-    return PLACES.get(folder) or next(of_home, CACHE)
-
-
 def kept(name: str) -> list[str]:
     """The places of a program in tool caches and packages: in the folders of ACTRUN_TOOLS, and of PATH."""
     patterns = []
     for folder in filter(None, os.environ.get("ACTRUN_TOOLS", "").split(":")):
-        layout = layout_of(folder)
+        of_home = (layout for end, layout in HOMES.items() if folder.endswith(f"/{end}"))
+        # (of the system, below a home folder, or a tool cache)
+        layout = PLACES.get(folder) or next(of_home, None) or CACHE
         patterns += [f"{glob.escape(folder)}/{layout[name]}"] if name in layout else []
     if name in NAMES:
         patterns += in_path([NAMES[name]])
@@ -140,5 +132,5 @@ def kept(name: str) -> list[str]:
 def how_to_get(name: str, asked: str) -> str:
     """How a person gets a version of a tool."""
     number = re.search(r"\d+(?:\.\d+)*", asked)
-    form = GET.get(name, "install it outside of home folders, which the sandbox hides")
+    form = GET.get(name, "install it outside of home directories, which the sandbox hides")
     return form.format(number[0] if number else asked)

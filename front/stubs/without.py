@@ -1,7 +1,7 @@
 """Replaces an action that does nothing here: it calls GitHub, or this program ships no stub for it.
 
-The step fails with a sentence that says how to name a program for it; with `--lenient` it is skipped with a warning. The reason is
-what README.md, the page of the actions, has in its last column.
+The step fails with a sentence that says how to name a program for it; with `--lenient` it is skipped with a
+warning. README.md, the page of the actions, has what such an action needs.
 """
 
 from __future__ import annotations
@@ -15,14 +15,15 @@ import step
 def reason(text: str) -> str:
     """Why nothing replaces the action."""
     if text.startswith("."):
-        return f"the local action {text} is not only made of `run` steps, so it is not inlined"
+        return f"the local action {text} has other steps than `run`, so it is not inlined"
     if text.startswith("docker://"):
         return f"{text} is a container, and steps run on this machine"
     if "/.github/workflows/" in text:
         return f"{text} is a workflow of another repository, which is not fetched"
-    name, page = step.split_action(text)[0], (pathlib.Path(__file__).parent / "README.md").read_text(encoding="utf-8")
-    why = re.search(rf"^\| `{re.escape(name)}` \|.*\| (.+) \|$", page, re.MULTILINE | re.IGNORECASE)
-    return f"{name} {why[1]}" if why else f"no program replaces the action {text}"
+    name = re.escape(step.split_action(text)[0])
+    page = (pathlib.Path(__file__).parent / "README.md").read_text(encoding="utf-8")
+    found = re.search(rf"^\|([^|`]+) \|.*`({name})`", page, re.MULTILINE | re.IGNORECASE)
+    return f"{found[2]} needs {found[1]}" if found else f"no program replaces the action {text}"
 
 
 def main(text: str, *words: str) -> None:

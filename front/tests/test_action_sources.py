@@ -1,4 +1,4 @@
-"""Where actions come from: a server, a folder, what is kept, a stand-in; what actrun.lock pins, and what an action may read."""
+"""Where actions come from: a server, a folder, what is kept, a stub; what actrun.lock pins, and what an action may read."""
 from __future__ import annotations
 
 import re
@@ -89,7 +89,7 @@ class Chosen(ActionCase):
         self.remote.publish("actions/cache", {"save/action.yml": self.COMPOSITE["action.yml"]}, "v4")
         self.workflow("- uses: actions/cache/save@v4\n  with: {key: a, path: b}")
         self.commit()
-        self.assertIn("0 actions/cache/save@v4 [stand-in; --real executes the action itself]",
+        self.assertIn("0 actions/cache/save@v4 [stub; --real executes the action itself]",
                       self.given("-n").stdout)
         done = self.given("--real", "actions/cache")
         self.assertIn("of the server", done.stdout)
@@ -129,7 +129,7 @@ jobs:
         done = self.given("-s", "A=a", "-s", "OTHER=hidden-from-it")
         self.assert_status(done, 0)
         for line in ('{"github_token":"","given":"***"}', "[] true", "the inner one", "got for-me"):
-            self.assertIn(f"\n{line}\n", done.stdout)
+            self.assertIn(f" | {line}\n", done.stdout)
 
     def test_an_action_reads_no_secrets(self) -> None:
         for number, text in enumerate((

@@ -52,7 +52,7 @@ class Actions(unittest.TestCase):
         for text, key, why in (("who/what@v1", "who/what", "no program replaces the action who/what@v1"),
                                ("./local", "./local", "the local action ./local"), ("docker://x:1", "docker://x:1", "a container"),
                                ("o/r/.github/workflows/w.yml@v1", "o/r/.github/workflows/w.yml", "a workflow of another repository"),
-                               ("actions/github-script@v7", "actions/github-script", "calls the API of GitHub")):
+                               ("actions/github-script@v7", "actions/github-script", "actions/github-script needs the API of GitHub")):
             code, shown = self.shown(self.stubs([text]).programs[text])
             self.assertEqual(code, 1)
             self.assertIn(why, shown)

@@ -1,6 +1,8 @@
 """Tests of expressions: tokens, templates and rewriting. Expected texts are written by hand."""
 import os
+import subprocess
 import unittest
+from unittest import mock
 
 from actrun_front.expressions import (Access, EvaluationError, Program, Rules, condition_expression, conjunction, has_expression, literal,
                                       names_status, reads_only, references, rewrite, rewrite_condition, rewrite_template, split,
@@ -96,6 +98,30 @@ class Asking(unittest.TestCase):
             program.evaluate("nope(1)", {})
         with self.assertRaisesRegex(EvaluationError, "plan Matrix EmptyVariable"):
             program.legs({"a": []})
+
+    def test_one_question_for_many(self):
+        """Each expression sees its own contexts; one without a value is asked about by itself."""
+        program = Program(ACTRUN)
+        asked = [("github.ref == 'a'", {"github": {"ref": "A"}}), ("inputs.x", {"inputs": {"x": [1]}}),
+                 ("github['ref']", {"github": {"ref": "'b"}}), ("format('{0}', github.*)", {"github": {}})]
+        with mock.patch("subprocess.run", wraps=subprocess.run) as started:
+            program.ask_together(asked)
+            self.assertEqual([program.evaluate(*one) for one in asked], [True, [1], "'b", "Array"])
+            self.assertEqual(started.call_count, 1)
+            program.ask_together([("1 == 1", {}), ("fromJSON('x')", {}), ("2 == 1", {})])
+            count = started.call_count
+            self.assertEqual([program.evaluate("1 == 1", {}), program.evaluate("2 == 1", {})], [True, False])
+            self.assertEqual(started.call_count, count)
+            with self.assertRaisesRegex(EvaluationError, "value BadJson"):
+                program.evaluate("fromJSON('x')", {})
+
+    def test_what_is_to_be_asked_is_noted(self):
+        program = Program(ACTRUN)
+        program.collects = True
+        for _ in range(2):
+            with self.assertRaisesRegex(EvaluationError, "later"):
+                program.evaluate("1 == 1", {})
+        self.assertEqual(program.noted, [("1 == 1", {})])
 
     def test_no_program(self):
         with self.assertRaisesRegex(EvaluationError, "/no/such cannot be started"):

@@ -45,6 +45,16 @@ class Filters(TryCase):
             self.assertIn("-W .github/workflows/ci.yml\n", done.stderr)
         self.assertEqual(list((self.home / ".cache" / "actrun" / "work").iterdir()), [])
 
+    def test_a_message_by_which_github_starts_nothing(self) -> None:
+        self.workflow("- run: 'true'")
+        self.commit()
+        for message in ("docs [skip ci]", "a\n\nb\n\n\nskip-checks: true"):
+            self.git("commit", "-q", "--allow-empty", "-m", message)
+            self.assertRegex(self.attempt("-n").stderr, r"note: the message of the last commit has `(\[skip ci\]|skip-checks: true)`, "
+                                                        "by which GitHub starts no workflow for this push\n")
+        self.git("commit", "-q", "--allow-empty", "-m", "skip ci")
+        self.assertNotIn("starts no workflow", self.attempt("-n").stderr)
+
     def test_without_an_event_what_there_is_is_offered(self) -> None:
         self.workflow("- run: 'true'", WORKFLOW.replace("push", "[workflow_dispatch, pull_request]"),
                       "other.yml")

@@ -97,7 +97,8 @@ runs:
         self.commit()
         done = self.given()
         self.assert_status(done, 0)
-        shown = self.sections(done)
+        shown = [(title.rpartition(" / ")[2], text) for title, text in self.sections(done)]
+        self.assertIn("\n--- one: octo/outer/sub/dir@v2 / Run octo/telling@v1\n", done.stdout)
         self.assertEqual([title for title, _ in shown if title.startswith(("Pre", "Run", "Post"))],
                          ["Pre Run octo/telling@v1"] * 2 + ["Run octo/telling@v1"] + ["Post Run octo/telling@v1"] * 2)
         self.assertEqual([text.partition("\n")[0] for title,
@@ -143,7 +144,7 @@ runs:
         self.commit()
         done = self.given("--workers", "2")
         self.assert_status(done, 0)
-        posts = re.findall(r"(?m)^post (\w+) yes", done.stdout)
+        posts = re.findall(r"(?m)^post (\w+) yes", self.printed(done))
         self.assertEqual(([it for it in posts if it[0] == "a"], [it for it in posts if it[0] == "b"]),
                          (["a2", "a1"], ["b2", "b1"]))
 
@@ -232,6 +233,23 @@ class OldCommands(ActionCase):
         done = self.given()
         self.assert_status(done, 0)
         self.assertIn(f"python 2.99.1 ({place})", done.stdout)
+
+
+@NEEDS_PROGRAM
+class PostOfStubs(ActionCase):
+    def test_a_cache_is_saved_at_the_end_of_its_job(self) -> None:
+        cache = "    - uses: actions/cache@v4\n      id: c\n      with: {path: kept, key: k-VALUE}\n"
+        jobs = [f"  {name}:\n    runs-on: ubuntu-latest\n    needs: [{needs}]\n    steps:\n"
+                f"{cache.replace('VALUE', key)}    - run: {run}\n" for name, needs, key, run in (
+                    ("one", "", "1", "mkdir kept; echo of one > kept/file"), ("bad", "", "2", "mkdir kept; exit 1"),
+                    ("two", "one", "1", "echo ${{ steps.c.outputs.cache-hit }} $(cat kept/file)"))]
+        self.write(".github/workflows/ci.yml", "on: push\njobs:\n" + "".join(jobs))
+        self.commit()
+        done = self.attempt()
+        self.assert_status(done, 1)
+        self.assertRegex(done.stdout, r"one: Post actions/cache@v4 \| the cache k-1 is saved\n")
+        self.assertIn("\ntrue of one\n", self.printed(done))
+        self.assertNotIn("the cache k-2 is saved", done.stdout)
 
 
 if __name__ == "__main__":

@@ -30,19 +30,49 @@ class Contexts(LowerCase):
                        "{uses: ./act}, {uses: actions/checkout@v3, env: {GITHUB_ACTION: own}}]")
         self.assertEqual(job["env"], {"GITHUB_JOB": "a"})
         self.assertEqual([step["env"]["GITHUB_ACTION"] for step in job["steps"]],
-                         ["__run", "__actions_checkout", "__run_2", "me", "__self", "own"])
+                         ["__run", "__actions_checkout", "__run_2", "me", "__self", "__actions_checkout_2"])
 
-    def test_variables_of_the_workflow_stay(self):
-        flow = self.lower("on: push\nenv: {GITHUB_JOB: mine, A: '${{ runner.os }}'}\njobs: {a: {steps: []}}")
-        self.assertEqual(flow["env"], {"GITHUB_JOB": "mine", "A": "Linux"})
-        self.assertNotIn("env", flow["jobs"]["a"])
+    def test_default_variables_of_the_workflow(self):
+        flow = self.lower("on: push\nenv: {GITHUB_JOB: mine, A: '${{ runner.os }}', GITHUB_TOKEN: t}\n"
+                          "jobs: {a: {steps: [{run: x, env: {RUNNER_OS: BeOS, RUNNER_X: y}}]}}")
+        self.assertEqual(flow["env"], {"A": "Linux", "GITHUB_TOKEN": "t"})
+        self.assertEqual(flow["jobs"]["a"]["env"], {"GITHUB_JOB": "a"})
+        self.assertEqual(flow["jobs"]["a"]["steps"][0]["env"], {"RUNNER_X": "y", "GITHUB_ACTION": "__run"})
+        self.assertIn((3, "RUNNER_OS is a variable of the runner, which no `env` changes, as on GitHub"), self.notes())
+
+    def test_default_variables_that_expressions_read(self):
+        flow = self.lower("on: push\nenv: {GITHUB_REF_NAME: mine}\njobs: {a: {steps: [{run: 'x ${{ env.GITHUB_REF_NAME }}'}]}}")
+        self.assertEqual(flow["env"], {"GITHUB_REF_NAME": "mine"})
+
+    def test_default_variables_are_none_of_the_context(self):
+        step = self.step("run: \"x ${{ env.GITHUB_JOB }} ${{ env['github_ref'] }} ${{ env.GITHUB_TOKEN }}\", if: env.RUNNER_TEMP == ''")
+        self.assertEqual((step["run"], step["if"]), ("x ${{ null }} ${{ null }} ${{ env.GITHUB_TOKEN }}", "null == ''"))
+
+    def test_environment_of_the_runner(self):
+        for runs_on, expected in (("ubuntu-latest", "github-hosted"), ("[Self-Hosted, linux]", "self-hosted")):
+            job = self.job(f"runs-on: {runs_on}, steps: [{{run: '${{{{ runner.environment }}}}'}}]")
+            self.assertEqual(job["steps"][0]["run"], expected)
+            self.assertEqual(job["env"].get("RUNNER_ENVIRONMENT", "github-hosted"), expected)
+
+    def test_conditions_without_a_value_and_names_that_are_numbers(self):
+        job = self.job("if: , name: 1.50, outputs: {n: 5, b: true, t: x}, steps: [{run: x, if: null, name: true}]")
+        self.assertNotIn("if", job)
+        self.assertEqual(job["outputs"], {"n": "5", "b": "true", "t": "x"})
+        self.assertEqual((job["name"], job["steps"][0]["name"]), ("1.5", "true"))
+        self.assertNotIn("if", job["steps"][0])
+
+    def test_what_looks_otherwise(self):
+        self.lower("on: push\njobs:\n  a:\n    steps:\n      - run: echo '${{ toJSON(github) }}'\n"
+                   "      - run: echo '::add-matcher::m.json'\n      - run: echo \"${{ toJSON('x') }}\"\n")
+        self.assertEqual(self.notes(), [(5, "toJSON sorts keys here, GitHub writes them in their own order"),
+                                        (6, "problem matchers make no annotations here")])
 
     def test_hash_files(self):
         self.write("a.lock", "one\n")
         step = self.step("run: \"x-${{ hashFiles('*.lock') }}-${{ hashFiles('none', 'nothing') }}\"")
         self.assertEqual(step["run"], "x-9c64071fc196d33fec0036f48898b7ff2cf8398b892ead8afce6e9568f7fb6de-")
         self.assertEqual(self.notes(), [(2, "hashFiles('*.lock') is replaced by the digest 9c64071fc196.. of the repository's files"),
-                                        (2, "hashFiles('none', 'nothing') is replaced by an empty text: no file matches")])
+                                        (2, "hashFiles('none', 'nothing') is replaced by an empty string: no file matches")])
 
     def test_hash_files_are_read_once(self):
         with mock.patch("actrun_front.hash_files.files_of", return_value=[]) as listed:  # (of a big repository that is slow)
@@ -52,7 +82,7 @@ class Contexts(LowerCase):
 
     def test_hash_files_that_are_refused(self):
         line, text = self.refused("on: push\njobs:\n  a:\n    steps:\n      - uses: c\n        with:\n          key: ${{ hashFiles(env.FILE) }}")
-        self.assertEqual((line, text), (7, "hashFiles has no value before execution here: write its patterns as texts in quotes"))
+        self.assertEqual((line, text), (7, "hashFiles has no value before execution here: write its patterns as strings in quotes"))
         line, text = self.refused("on: push\njobs: {a: {steps: [{run: \"${{ hashFiles('../x') }}\"}]}}")
         self.assertIn("the pattern ../x of hashFiles has a `.` or `..` in it", text)
 

@@ -128,7 +128,7 @@ class Kept(LowerCase):
         self.write("bad/action.yml", "runs: [")
         line, text = self.refused("on: push\njobs:\n  a:\n    steps:\n      - uses: ./bad")
         self.assertEqual(line, 5)
-        self.assertTrue(text.startswith("the action ./bad has a fault: bad/action.yml:1: "), text)
+        self.assertTrue(text.startswith("the action ./bad has an error: bad/action.yml:1: "), text)
 
 
 if __name__ == "__main__":

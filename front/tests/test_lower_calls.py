@@ -96,8 +96,29 @@ jobs:
         self.lower("on: push\njobs:\n  bad: {steps: [{run: exit 1}]}\n  c: {needs: bad, if: always(), uses: ./.github/workflows/c.yml}\n"
                    "  no: {needs: bad, uses: ./.github/workflows/c.yml}\n")
         self.assertEqual(self.run_plan(status=1), ["one", "two"])
-        self.assertIn((4, "the condition of job c names a status: in .github/workflows/c.yml success() and failure() look at direct needs alone"),
+        self.assertIn((4, "job c has a condition that names a status: in .github/workflows/c.yml success() and failure() look at direct "
+                          "needs only"), self.notes())
+
+    @needs_program
+    def test_a_skipped_job_of_a_call_skips_nothing_behind_it(self):
+        self.write(".github/workflows/c.yml", "on: workflow_call\njobs:\n  off: {if: false, steps: [{run: echo never}]}\n"
+                   "  on: {steps: [{run: echo on}]}\n")
+        self.write(".github/workflows/d.yml", "on: workflow_call\njobs:\n  one: {steps: [{run: echo one}]}\n"
+                   "  two: {needs: one, steps: [{run: echo two}]}\n")
+        self.lower("on: push\njobs:\n  c: {uses: ./.github/workflows/c.yml}\n  d: {needs: c, uses: ./.github/workflows/d.yml}\n"
+                   "  e: {needs: d, steps: [{run: echo e}]}\n  f: {needs: c, if: success() || failure(), steps: [{run: echo f}]}\n")
+        self.assertEqual(sorted(self.run_plan()), ["e", "f", "on", "one", "two"])
+        self.assertIn((4, "job d is behind a call: in .github/workflows/d.yml success() and failure() look at direct needs only"),
                       self.notes())
+
+    @needs_program
+    def test_behind_a_call_success_looks_at_all_before_it(self):
+        self.write(".github/workflows/c.yml", "on: workflow_call\njobs:\n  one: {if: true, steps: [{run: echo one}]}\n")
+        self.lower("on: push\njobs:\n  bad: {steps: [{run: exit 1}]}\n"
+                   "  c: {needs: bad, if: always(), uses: ./.github/workflows/c.yml}\n"
+                   "  no: {needs: c, steps: [{run: echo never}]}\n  never: {needs: c, if: success(), steps: [{run: echo never}]}\n"
+                   "  last: {needs: [no, never], if: always(), steps: [{run: 'echo ${{ needs.no.result }} ${{ needs.never.result }}'}]}\n")
+        self.assertEqual(self.run_plan(status=1), ["one", "skipped skipped"])
 
     @needs_program
     def test_a_matrix_calls_once_for_each_combination(self):
@@ -156,12 +177,29 @@ class Refusals(LowerCase):
         return reason
 
     def test_refusals(self):
-        self.assertIn("the called workflow has a fault: c.yml:1: ", self.reason("a: ["))
+        self.assertIn("the called workflow has an error: c.yml:1: ", self.reason("a: ["))
         self.assertIn("c.yml has no jobs", self.reason("on: workflow_call"))
         self.assertIn("write `workflow_call` under its `on`", self.reason("on: push\njobs: {a: {steps: []}}"))
         self.assertIn("c.yml requires the input x: give it under `with` of job c",
                       self.reason("on: {workflow_call: {inputs: {x: {required: true}}}}\njobs: {a: {steps: []}}"))
         self.assertIn("nest deeper than 4 levels here: c.yml > c.yml > c.yml > c.yml", self.reason("on: workflow_call\njobs: {a: {uses: ./c.yml}}"))
+
+    def test_inputs_and_secrets_that_do_not_fit(self):
+        self.write("c.yml", "on: {workflow_call: {inputs: {n: {type: number}, b: {type: boolean}, s: {type: string}}, "
+                            "secrets: {token: {required: true}}}}\njobs: {a: {runs-on: x, steps: [{run: a}]}}")
+        for given, reason in (("with: {x: 1}, secrets: {token: t}", "c.yml declares no input x"),
+                              ("with: {n: abc}, secrets: {token: t}", "the input n of c.yml is a number, not abc"),
+                              ("with: {n: true}, secrets: {token: t}", "the input n of c.yml is a number, not true"),
+                              ("with: {b: 'no'}, secrets: {token: t}", "the input b of c.yml is a boolean, not no"),
+                              ("secrets: {token: t, other: o}", "c.yml declares no secret other"),
+                              ("with: {n: 1}", "c.yml requires the secret token: give it under `secrets` of job c")):
+            flow = "on: push\njobs: {c: {uses: ./c.yml, " + given + "}}"
+            self.assertEqual(self.refused(flow, strict=True), (2, reason))
+            self.lower(flow)
+            self.assertTrue(any(text.startswith(f"{reason}: ") for _, text in self.notes()), self.notes())
+        for given in ("with: {n: 1.5, b: true, s: 2}, secrets: {token: t}", "with: {n: '3', b: '${{ true }}'}, secrets: inherit",
+                      "with: {n: '${{ 1 }}', s: abc}, secrets: {TOKEN: ''}"):
+            self.lower("on: push\njobs: {c: {uses: ./c.yml, " + given + "}}", strict=True)
 
     def test_a_refusal_inside(self):
         reason = self.reason("on: workflow_call\njobs:\n  a:\n    steps:\n      - run: ${{ hashFiles(env.X) }}\n")

@@ -1,4 +1,4 @@
-"""The order of legs, `matrix` where there is none, and names that differ in case alone."""
+"""The order of legs, `matrix` if there is none, and names that differ in case alone."""
 from __future__ import annotations
 
 import json
@@ -21,6 +21,7 @@ def github_legs(variables: dict, include: list, exclude: list) -> list[dict]:
     legs: list[dict] = [{}]
     for name, values in variables.items():
         legs = [{**leg, name: value} for leg in legs for value in values]
+
     def fits(leg: dict, entry: dict, missing: bool) -> bool:
         return all(missing if name not in leg else same(leg[name], value) for name, value in entry.items())
     legs = [leg for leg in legs if not any(fits(leg, one, False) for one in exclude)] if variables else []
@@ -53,7 +54,7 @@ class Legs(LowerCase):
         chance = random.Random(3)
         for _ in range(25):
             names = chance.sample(["z", "m", "a", "k"], chance.randint(1, 3))
-            variables = {name: chance.sample([1, 2, "x", True, {"deep": 1}],
+            variables = {name: chance.sample([1, 2, "x", True, {"two": 1, "deep": [{"z": 1, "b": 2}]}],
                                              chance.randint(1, 3)) for name in names}
 
             def entry(extra: list[str]) -> dict:
@@ -96,7 +97,7 @@ class Tried(TryCase):
                             "extra: 5}]}}\n    steps:\n"))
         done = self.attempt()
         self.assert_status(done, 0)
-        for line in ("--- one (u, 2): ", "--- one (w, 1, 5): ", "leg 0 u 2 of 4\n", "leg 1 u 1 of 4\n",
+        for line in ("one (u, 2): ", "one (w, 1, 5): ", "leg 0 u 2 of 4\n", "leg 1 u 1 of 4\n",
                      "leg 2 w 2 of 4\n", "leg 3 w 1 of 4\n"):
             self.assertIn(line, done.stdout)
 

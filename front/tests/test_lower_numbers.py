@@ -1,7 +1,8 @@
-"""Numbers with fractions: what they become before planning, and that no comparison is false for want of them."""
+"""Numbers with fractions: what they become before planning, and that no comparison is false without them."""
 from __future__ import annotations
 
 import itertools
+import json
 import os
 import random
 import unittest
@@ -160,18 +161,41 @@ class Lowered(LowerCase):
                        "[{run: x, with: {v: 0.50}}]")
         self.assertEqual({name: job["env"][name] for name in "ABC"}, {"A": "3.1", "B": 1, "C": "3.10"})
         self.assertEqual(job["strategy"]["matrix"]["v"], ["3.1", 2, 100])
-        self.assertIn((2, "3.10 is the number 3.1, as GitHub reads it; write a text in quotes"), self.notes())
+        self.assertIn((2, "3.10 is the number 3.1, as GitHub reads it; write a string in quotes"), self.notes())
 
     def test_inputs(self) -> None:
         self.contexts = {"inputs": {"n": Number("2.5"), "m": 2}}
         step = self.step("run: \"${{ inputs.n > 2 }} ${{ inputs.N == 2.50 }} ${{ inputs.n < inputs.m }} ${{ inputs.m < 3 }}\"")
         self.assertEqual(step["run"], "${{ true }} ${{ true }} ${{ inputs.m > 2 }} ${{ inputs.m < 3 }}")
 
+    def test_texts_that_are_numbers(self) -> None:
+        for text, expected in (("' 1.5' > 1.5", False), ("'1.0' == 1", True), ("'1e3' == 1000", True), ("'0xff' == 255", True),
+                               ("1 == ' 1 '", True), ("'0o17' == 15", True), ("'0xffffffff' == -1", True), ("'Infinity' > 9", True),
+                               ("' ' == 0", True)):
+            step = self.step(f'run: "${{{{ {text} }}}}"')
+            self.assertEqual(step["run"], f"${{{{ {str(expected).lower()} }}}}", text)
+
+    def test_texts_that_the_program_reads_alike(self) -> None:
+        for text in ("'1' == 1", "'' == 0", "'abc' == 0", "'1.0' == '1'", "'-7' < 3", "'0x' == 0"):
+            self.assertEqual(self.step(f'run: "${{{{ {text} }}}}"')["run"], f"${{{{ {text} }}}}")
+
+    def test_case(self) -> None:
+        for text, expected in (
+                ("case(a.b == 1, 'x', a.c, 'y', a.d)", "((a.b == 1) && 'x' || (a.c) && 'y' || (a.d))"),
+                ("Case(true, a.b, 'z')", "((true) && fromJSON(format('[{0}]', toJSON(a.b))) || "
+                                         "fromJSON(format('[{0}]', toJSON('z'))))[0]"),
+                ("'1.0' == case(true, 1, case(false, 2, 3))", "'1.0' == ((true) && 1 || (((false) && 2 || (3))))"),
+                ("case(true, 1)", "case(true, 1)"), ("case('a', 'b', 'c')", "case('a', 'b', 'c')")):
+            text = text.replace("a.", "github.")
+            step = self.step(f'run: "${{{{ {text} }}}}"')
+            self.assertEqual(step["run"], f"${{{{ {expected.replace('a.', 'github.')} }}}}")
+
     def test_a_comparison_that_cannot_be_decided(self) -> None:
-        line, text = self.refused("on: push\njobs: {a: {steps: [{run: x, if: \"' 1.5' > 1.5\"}]}}")
-        self.assertIn("has a comparison with a fraction that cannot be decided: ' 1.5' is a number in a "
-                      "spelling that is not read here", text)
-        self.assertEqual(line, 2)
+        values = ", ".join(f"{number}.5" for number in range(65))
+        line, text = self.refused("on: push\njobs:\n  a:\n    strategy: {matrix: {v: [" + values + "]}}\n"
+                                  "    steps: [{run: x, if: matrix.v > 1.5}]")
+        self.assertIn("has a comparison with a fraction that cannot be decided: matrix.v has more than 64 values", text)
+        self.assertEqual(line, 5)
 
 
 @NEEDS_PROGRAM
@@ -199,8 +223,18 @@ class Tried(TryCase):
         self.assertRegex(done.stdout, r"step 3 \(echo unseen\) failed at line \d+: "
                                       r".*NotWhole.*\[\.github/workflows/ci\.yml:12\]")
         self.assertNotIn("unseen\nunseen", done.stdout)
+        remedy = "NotWhole: a number has a fraction or an exponent, or is out of range: compare it as a string"
+        self.assertEqual(done.stdout.count(f"\n  {remedy}\n"), 1)
         self.assertIn("note: .github/workflows/ci.yml:5: 3.10 is the number 3.1, as GitHub reads it; write a "
-                      "text in quotes\n", done.stderr)
+                      "string in quotes\n", done.stderr)
+
+    def test_the_reason_as_json(self) -> None:
+        self.workflow("- run: echo ${{ fromJSON('[1]') == fromJSON('[1]') }}")
+        done = self.attempt("--json")
+        self.assert_status(done, 1)
+        step = json.loads(done.stdout.splitlines()[-1])["runs"][0]["jobs"][0]["legs"][0]["steps"][0]
+        self.assertEqual((step["result"], step["exit"], step["cause"]), (
+            "failure", None, "NoIdentity: lists and mappings cannot be compared by `==`: compare their parts, or toJSON of them"))
 
 
 if __name__ == "__main__":

@@ -51,6 +51,13 @@ class Login(TryCase):
         self.assertIn("the tool\n.\n", done.stdout)
         self.assertIn("\nrc.\n", done.stdout)
 
+    def test_scripts_have_files_of_their_own(self) -> None:
+        self.workflow("- run: echo a=b >> \"$GITHUB_STATE\"; echo c >> \"$GITHUB_STEP_SUMMARY\"\n"
+                      "- run: cat \"$GITHUB_STATE\" \"$GITHUB_STEP_SUMMARY\"; echo none")
+        done = self.attempt()
+        self.assert_status(done, 0)
+        self.assertRegex(done.stdout, r"---[^\n]*\nnone\n")
+
     def test_without_sandbox(self) -> None:
         self.check("--no-sandbox", "--env", f"HOME={self.room}/steps")
 

@@ -3,10 +3,24 @@
 from __future__ import annotations
 
 import pathlib
+import signal
+import subprocess
 import sys
 import unittest
 
+from actrun_front.actions import STUBS
 from tests.stub_case import StubCase
+
+
+class Ended(unittest.TestCase):
+    """A stub that a signal ends."""
+
+    def test_a_signal_needs_no_words(self) -> None:
+        code = "import signal; signal.signal(signal.SIGINT, signal.default_int_handler); import step, time; print('up', flush=True); time.sleep(60)"
+        with subprocess.Popen([sys.executable, "-c", code], cwd=STUBS, stdout=subprocess.PIPE, stderr=subprocess.STDOUT) as stub:
+            self.assertEqual(stub.stdout.readline(), b"up\n")
+            stub.send_signal(signal.SIGINT)
+            self.assertEqual((stub.communicate()[0], stub.returncode), (b"", -signal.SIGINT))
 
 
 class Checkout(StubCase):
@@ -37,7 +51,7 @@ class Checkout(StubCase):
     def test_a_path_that_is_not_there_fails(self) -> None:
         ended = self.start("actions/checkout@v4", {"path": "other"})
         self.assertEqual(ended.code, 1)
-        self.assertIn("the folder other is not in the tree", ended.shown)
+        self.assertIn("the directory other is not in the tree", ended.shown)
 
     def test_a_path_that_is_there_is_used(self) -> None:
         self.write("tree/other/file")

@@ -74,7 +74,7 @@ class Cache(StubCase):
         self.write("tree/c", "1")
         self.save("k", "c")
         self.write("tree/c", "2")
-        self.assertIn("is there already", self.save("k", "c").shown)
+        self.assertIn("exists already", self.save("k", "c").shown)
         self.restore(key="k", path="c")
         self.assertEqual((self.tree / "c").read_text(encoding="utf-8"), "1")
         self.assertEqual(len(list((self.room / "cache").iterdir())), 1)
@@ -99,6 +99,19 @@ class Cache(StubCase):
         self.assertTrue((self.tree / "c/up").is_symlink())
         self.assertEqual(secret.read_text(encoding="utf-8"), "untouched")
         self.assertFalse(pathlib.Path("/etc/actrun-test").exists())
+
+    def test_an_archive_that_a_step_replaced(self) -> None:
+        for name, make in (("pipe", os.mkfifo), ("device", lambda place: place.symlink_to("/dev/zero")),
+                           ("folder", pathlib.Path.mkdir), ("none", lambda place: place.symlink_to("nothing")),
+                           ("text", lambda place: place.write_bytes(b"x" * 5000))):
+            self.write("tree/c", name)
+            self.save(name, "c")
+            place = max((self.room / "cache").glob("*/workspace.tar"), key=os.path.getctime)
+            place.unlink()
+            make(place)
+            ended = self.restore(key=name, path="c")
+            self.assertEqual((ended.code, ended.outputs["cache-hit"], "is broken" in ended.shown), (0, "true", name == "text"), ended)
+        self.assertEqual(self.save("last", "c").code, 0)
 
     def test_wildcards_and_exclusions(self) -> None:
         for name in ("a/one.o", "a/two.c", "b/x/three.o", "b/skip/four.o"):
@@ -158,20 +171,14 @@ class Cache(StubCase):
             self.assertEqual((ended.code, ended.outputs), (1, {}))
             self.assertIn(f"::error::the variable '{variable}' is not set: `actrun try` starts this program", ended.shown)
 
-    def after(self, ends: str) -> str:
-        """Executes what `try` executes after the play of a record whose leg 0 ended so."""
-        self.environment["ACTRUN_PROGRAM"] = str(self.program("actrun", f"cat >/dev/null; echo 'leg 0 ended {ends}'"))
-        command = actions.after_play(sys.executable, self.write("record", "{}\n"))
-        environment = {**self.environment, "GITHUB_WORKSPACE": "/", "RUNNER_TEMP": str(self.room)}  # of no leg
-        return subprocess.run(command, env=environment, cwd=self.room, capture_output=True, text=True, check=True).stdout
-
-    def test_the_cache_action_saves_after_a_success_alone(self) -> None:
+    def test_the_cache_action_saves_at_the_end_of_the_job(self) -> None:
         self.write("tree/c", "1")
-        for ends, saved in (("failure", False), ("success", True)):
-            self.assertEqual(self.start("actions/cache@v4", {"key": "k", "path": "c"}, number=3).code, 0)
-            self.assertIn("is saved" if saved else "is not saved: leg 0 did not succeed", self.after(ends))
-            self.assertEqual("cache-hit" in self.restore(key="k", path="c").outputs, saved)
-        self.assertEqual(self.after("success"), "")
+        self.assertEqual(self.start("actions/cache@v4", {"key": "k", "path": "c"}, number=3).code, 0)
+        self.environment["ACTRUN_PHASE"] = "post"
+        for said in ("the cache k is saved", ""):
+            self.assertEqual(self.start("actions/cache@v4", {}, number=9).shown.strip(), said)
+        del self.environment["ACTRUN_PHASE"]
+        self.assertEqual(self.restore(key="k", path="c").outputs["cache-hit"], "true")
 
     def test_two_that_save_at_once_leave_one_whole_cache(self) -> None:
         self.write("tree/c", "x" * 100000)
@@ -263,12 +270,24 @@ class Artifacts(StubCase):
         self.upload("a")
         ended = self.upload("b")
         self.assertEqual(ended.code, 1)
-        self.assertIn("an artifact artifact is there already", ended.shown)
+        self.assertIn("the artifact artifact exists already", ended.shown)
         self.assertEqual(self.kept(), ["artifact/a"])
         self.assertEqual(self.upload("b", ref="v3").code, 0)
         self.assertEqual(self.kept(), ["artifact/a", "artifact/b"])
         self.assertEqual(self.upload("b", overwrite="true").code, 0)
         self.assertEqual(self.kept(), ["artifact/b"])
+
+    def test_merged_artifacts(self) -> None:
+        for name in "ab":
+            self.write(f"tree/{name}", name)
+            self.upload(name, name=f"part-{name}")
+        merge = "actions/upload-artifact/merge@v4"
+        self.assertEqual(self.start(merge, {"pattern": "part-*", "separate-directories": "true", "name": "apart"}).code, 0)
+        self.assertEqual(self.start(merge, {"pattern": "part-*", "delete-merged": "true"}).code, 0)
+        self.assertEqual(self.kept(), ["apart/part-a/a", "apart/part-b/b", "merged-artifacts/a", "merged-artifacts/b"])
+        ended = self.start(merge, {"pattern": "part-*"})
+        self.assertEqual(ended.code, 1)
+        self.assertIn("no artifact of this run matches the pattern part-*", ended.shown)
 
     def test_names_that_github_refuses(self) -> None:
         self.write("tree/a", "1")

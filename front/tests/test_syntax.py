@@ -2,6 +2,8 @@
 from __future__ import annotations
 
 import re
+import subprocess
+import sys
 import unittest
 from pathlib import Path
 
@@ -38,7 +40,8 @@ class Accepted(unittest.TestCase):
         self.assertGreater(len(files), 8)
         for path in files:
             with self.subTest(path):
-                found = [text for text in told(path.read_text(encoding="utf-8")) if "knows no key `x-" not in text]
+                found = [text for text in told(path.read_text(encoding="utf-8"))
+                         if "knows no key `x-" not in text and "merge key" not in text]
                 self.assertEqual(found, [])
 
 
@@ -50,6 +53,10 @@ class Refused(unittest.TestCase):
         found = told(text)
         self.assertEqual([text for text, start in zip(found, wanted) if text.startswith(start)], found, found)
         self.assertEqual(len(found), len(wanted), found)
+
+    def test_merge_keys(self) -> None:
+        self.check(STEP + "env: &e {A: 1}\n      - {run: 'true', env: {<<: *e}}\n",
+                   "8: GitHub knows anchors and aliases, but no merge key `<<`: write the keys out")
 
     def test_keys(self) -> None:
         self.check(JOB.replace("runs-on", "run-on"), "3: jobs.a: `runs-on` is missing",
@@ -97,7 +104,7 @@ class Refused(unittest.TestCase):
                    "1: on.schedule.0.cron: `0 25 * * *` is no time of a schedule: "
                    "the hour 25 is none of 0-23, `*`, lists, ranges and `*/N`")
         self.check(JOB.replace("push", "{schedule: {cron: '0 0 * * *'}}"),
-                   "1: on.schedule: GitHub expects a list here, not a map")
+                   "1: on.schedule: GitHub expects a list here, not a mapping")
         for text in ("* * * *", "@daily", "60 * * * *", "* * 0 * *", "* * * 13 *", "* * * * 8", "*/0 * * * *",
                      "a * * * *", "1-2-3 * * * *", ""):
             self.assertTrue(why_no_cron(text), text)
@@ -122,31 +129,31 @@ class Refused(unittest.TestCase):
                    "7: jobs.a.steps.0.continue-on-error: GitHub expects true, false or an expression")
         self.check(STEP + "timeout-minutes: soon\n",
                    "7: jobs.a.steps.0.timeout-minutes: GitHub expects a number here, not soon")
-        self.check(STEP + "env: [A]\n", "7: jobs.a.steps.0.env: GitHub expects a map here, not a list")
+        self.check(STEP + "env: [A]\n", "7: jobs.a.steps.0.env: GitHub expects a mapping here, not a list")
         self.check(JOB.replace("x\n", "{groups: y}\n"),
                    "4: jobs.a.runs-on.groups: GitHub knows no key `groups` here; did you mean group?")
         self.check(JOB.replace("x\n", "\n"),
-                   "4: jobs.a.runs-on: nothing is here: GitHub expects a map or a list or a text")
+                   "4: jobs.a.runs-on: a value is missing: GitHub expects a mapping or a list or a string")
         self.check("concurrency: {cancel-in-progress: true}\n" + JOB, "1: concurrency: `group` is missing")
 
     def test_names_of_actions_and_workflows(self) -> None:
         self.check(JOB + "      - uses: actions/checkout\n",
-                   "7: jobs.a.steps.1.uses: `actions/checkout` has not the form "
+                   "7: jobs.a.steps.1.uses: `actions/checkout` does not have the form "
                    "OWNER/NAME[/PATH]@REF, ./PATH or docker://IMAGE: write actions/checkout@REF, as @v4")
         self.check(JOB + "      - uses: a/b@${{ matrix.x }}\n",
                    "7: jobs.a.steps.1.uses: GitHub evaluates no expression here")
         self.check(JOB + "      - uses: checkout@v4\n",
-                   "7: jobs.a.steps.1.uses: `checkout@v4` has not the form")
+                   "7: jobs.a.steps.1.uses: `checkout@v4` does not have the form")
         self.check(JOB + "  b: {uses: a/b/.github/workflows/c.yml}\n",
-                   "7: jobs.b.uses: `a/b/.github/workflows/c.yml` has not the form")
+                   "7: jobs.b.uses: `a/b/.github/workflows/c.yml` does not have the form")
         self.check(JOB + "  b: {uses: ./.github/workflows/c.yml@main}\n",
                    "7: jobs.b.uses: a workflow of the repository is called without @REF")
 
     def test_ids(self) -> None:
         self.check(JOB.replace("  a:", "  1a:"),
-                   "3: jobs.1a: the id `1a` has a sign that GitHub does not take")
-        self.check(STEP + "id: a.b\n", "7: jobs.a.steps.0.id: the id `a.b` has a sign that GitHub does not "
-                                       "take")
+                   "3: jobs.1a: the id `1a` has a character that GitHub rejects")
+        self.check(STEP + "id: a.b\n", "7: jobs.a.steps.0.id: the id `a.b` has a character that "
+                                       "GitHub rejects")
         self.check(STEP + "id: __a\n", "7: jobs.a.steps.0.id: the id __a begins with __, which GitHub "
                                        "reserves")
         self.check(STEP + "id: a\n      - {run: x, id: A}\n",
@@ -184,9 +191,9 @@ class Tried(TryCase):
         done = self.attempt()
         self.assert_status(done, 2)
         self.assertEqual(done.stdout, "")
-        self.assertIn(".github/workflows/ci.yml:7: jobs.one.steps.1.uses: `actions/checkout` has not the "
+        self.assertIn(".github/workflows/ci.yml:7: jobs.one.steps.1.uses: `actions/checkout` does not have the "
                       "form ", done.stderr)
-        self.assertIn("--lenient executes what GitHub refuses, if it can", done.stderr)
+        self.assertIn("--lenient executes what GitHub rejects, if it can", done.stderr)
 
     def test_lenient_warns(self) -> None:
         self.workflow("- run: echo executed\n  if: secrets.A == ''")
@@ -195,7 +202,7 @@ class Tried(TryCase):
         self.assertIn("executed\n", done.stdout)
         self.assertIn("warning: .github/workflows/ci.yml:7: jobs.one.steps.0.if: the context `secrets` has "
                       "no value here; there are github, needs, "
-                      "strategy, matrix, job, runner, env, vars, steps, inputs: GitHub refuses this "
+                      "strategy, matrix, job, runner, env, vars, steps, inputs: GitHub rejects this "
                       "workflow\n", done.stderr)
 
     def test_a_called_workflow(self) -> None:
@@ -204,7 +211,7 @@ class Tried(TryCase):
         self.write("ci.yml", "on: push\njobs:\n  call:\n    uses: ./.github/workflows/called.yml\n")
         done = self.attempt("-W", "ci.yml")
         self.assert_status(done, 2)
-        self.assertIn("ci.yml:4: the called workflow .github/workflows/called.yml is refused by GitHub: "
+        self.assertIn("ci.yml:4: the called workflow .github/workflows/called.yml is rejected by GitHub: "
                       ".github/workflows/called.yml:6: "
                       "jobs.in.steps.0: `run` or `uses` is missing",
                       done.stderr.replace("the called workflow is", "the called workflow "
@@ -216,6 +223,34 @@ class Tried(TryCase):
         done = self.attempt()
         self.assert_status(done, 2)
         self.assertIn("through\n", done.stdout)
+
+
+@NEEDS_PROGRAM
+class Lint(TryCase):
+    """The command `lint` of workflows in YAML."""
+
+    def lint(self, *names: str) -> tuple[int, list[str], str]:
+        """The status of `lint`, the lines that it prints, and its errors."""
+        done = subprocess.run([sys.executable, str(FRONT), "lint", *names], cwd=self.project, env=self.environment,
+                              capture_output=True, text=True, check=False)
+        return done.returncode, done.stdout.splitlines(), done.stderr
+
+    def test_what_is_wrong(self) -> None:
+        self.write("good.yml", JOB)
+        self.write("late.yml", JOB.replace("steps", "strategy: {matrix: {v: '${{ fromJSON(vars.LIST) }}'}}\n    steps"))
+        self.write("key.yml", STEP + "evn: {A: 1}\n")
+        self.write("function.yml", JOB.replace("'true'", "echo ${{ foo('a') }}"))
+        self.write("number.yml", JOB.replace("runs-on", "env: {V: 3.10}\n    runs-on"))
+        self.write("flow.json", '{"on": "push", "jobs": {}}')
+        self.assertEqual(self.lint("good.yml"), (0, [], ""))
+        for name, status, line in (("late.yml", 0, "late.yml:5: v of job a is "), ("function.yml", 2, "function.yml:6: jobs.a.steps.0.run: there is no function"),
+                                   ("key.yml", 2, "key.yml:7: jobs.a.steps.0.evn: GitHub knows no key `evn`"), ("number.yml", 0, "number.yml:4: "),
+                                   ("flow.json", 2, "flow.json: jobs: refused, ")):
+            code, lines, errors = self.lint("good.yml", name)
+            self.assertEqual((code, len(lines), errors), (status, 1, ""), lines)
+            self.assertTrue(lines[0].startswith(line), lines)
+        self.assertEqual(self.lint("none.yml"), (3, [], "actrun: none.yml: No such file or directory\n"))
+        self.assertEqual(self.lint("--no", "good.yml")[0], 2)
 
 
 if __name__ == "__main__":

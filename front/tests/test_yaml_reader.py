@@ -53,9 +53,9 @@ class Faults(unittest.TestCase):
 
     def test_remedies(self):
         for text, line, remedy in ((b"a:\n\tb: 1\n", 2, "write spaces in place of the tab"),
-                                   (b"a: 1\nname: @x\n", 2, "write a text that begins so in quotes"),
-                                   (b"a: 1\nb: {c: d-${{ e }}}\n", 2, "within { } or [ ], write a text with `${{ }}` in quotes"),
-                                   (b"a: 1\nrun: echo 'a: b'\n", 2, "write a text with `: ` in it in quotes, and the keys of one map in one column")):
+                                   (b"a: 1\nname: @x\n", 2, "write a string that begins so in quotes"),
+                                   (b"a: 1\nb: {c: d-${{ e }}}\n", 2, "within { } or [ ], write a string with `${{ }}` in quotes"),
+                                   (b"a: 1\nrun: echo 'a: b'\n", 2, "write a string with `: ` in it in quotes, and the keys of one mapping in one column")):
             fault, = read_document(text).faults
             self.assertEqual(fault.line, line)
             self.assertTrue(fault.text.endswith(f": {remedy}"), fault.text)
