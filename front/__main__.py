@@ -1,4 +1,5 @@
-"""The front of actrun: `python3 FRONT try|from-yaml|debug|dap|report|timeline|explain|open|last ARGUMENTS`.
+"""The front of actrun: `python3 FRONT
+try|from-yaml|lint|debug|dap|report|timeline|explain|explain-error|open|files|last ARGUMENTS`.
 
 Where the running Python has no `ruamel.yaml`, the system's Python takes over.
 """
@@ -8,14 +9,26 @@ import signal
 import sys
 
 SYSTEM_PYTHON = "/usr/bin/python3"
-COMMANDS = {"try": "attempt", "from-yaml": "from_yaml", "debug": "debug", "dap": "dap", "report": "report", "timeline": "timeline",
-            "explain": "explain", "last": "last", "open": "open_page"}
+COMMANDS = {
+    "try": "attempt",
+    "from-yaml": "from_yaml",
+    "lint": "lint",
+    "debug": "debug",
+    "dap": "dap",
+    "report": "report",
+    "timeline": "timeline",
+    "explain": "explained",
+    "explain-error": "explain",
+    "last": "last",
+    "open": "open_page",
+    "files": "changed_files",
+}
 
 
 def main(arguments):
     """Exit status of the command that the first argument names."""
     if not arguments or arguments[0] not in COMMANDS:
-        print("usage: python3 front try|from-yaml|debug|dap|report|timeline|explain|open|last ARGUMENTS", file=sys.stderr)
+        print("usage: python3 front try|from-yaml|lint|debug|dap|report|timeline|explain|explain-error|open|files|last ARGUMENTS", file=sys.stderr)
         return 2
     try:
         importlib.import_module("ruamel.yaml")
@@ -33,11 +46,15 @@ def main(arguments):
     # (a parent may ignore it; then no command would be told how the programs that it starts end)
     signal.signal(signal.SIGCHLD, signal.SIG_DFL)
     from actrun_front.unforeseen import guarded
-    return guarded(arguments[0], lambda: importlib.import_module("actrun_front." + COMMANDS[arguments[0]]).main(arguments[1:]))
+    return guarded(
+        arguments[0],
+        lambda: importlib.import_module("actrun_front." + COMMANDS[arguments[0]]).main(arguments[1:]),
+    )
 
 
 def start():
-    """Ends with the command's status. Ctrl-C before the command has begun, or when it is over, shows no traceback either."""
+    """Ends with the command's status. Ctrl-C before the command has begun, or when it is over, shows no
+    traceback either."""
     try:
         # (the script blocks it until here)
         signal.pthread_sigmask(signal.SIG_UNBLOCK, [signal.SIGINT])

@@ -1,7 +1,9 @@
-"""Ends running steps as GitHub's runner does: at limits of time, where the board stops legs, and at Ctrl-C."""
+"""Ends running steps as GitHub's runner does: at limits of time, where the board stops legs, and at
+Ctrl-C."""
 from __future__ import annotations
 
 import contextlib
+import functools
 import heapq
 import itertools
 import json
@@ -9,16 +11,17 @@ import os
 import re
 import signal
 import stat
-import subprocess
 import threading
 import time
 from pathlib import Path
 from typing import Any, Callable, Iterable
 
+from . import Problem
 from .execute import PATIENCE, program, send, session
 from .expressions import Access, Rules, condition_expression, references, rewrite_condition, rewrite_template
 from .names import SEEN
 from .present import legs_of, step_name
+from .reasons import Part, parts_of
 
 # the signals to a step that has to end, each after that many seconds
 LADDER = ((0.0, signal.SIGINT), (7.5, signal.SIGTERM), (10.0, signal.SIGKILL), (12.5, signal.SIGKILL))
@@ -27,7 +30,6 @@ TICK = 0.2
 NUMBER = r"[0-9]*\.?[0-9]+"               # of minutes
 # variables by which a plan gives limits of time
 MINUTES, JOB_MINUTES = "ACTRUN_MINUTES", "ACTRUN_JOB_MINUTES"
-BOARD_LINE = re.compile(r'(run|leg) (\d+) (.*?)( stop)?(?: group ".*")?')
 
 
 def see_stops(plan: dict[str, Any]) -> None:
@@ -50,6 +52,12 @@ def see_stops(plan: dict[str, Any]) -> None:
         step["work"].update((key, seen(step["work"][key])) for key in ("run", "with") if key in step["work"])
         if step["work"].get("run") != was:
             step["name"] = name  # (a step without a name is called by its script)
+
+
+def failed_legs(parts: dict[str, Part]) -> dict[int, int]:
+    """The legs that failed, each with the line of a record where it ended."""
+    failed = (part for part in parts.values() if part.kind == "leg" and part.failed)
+    return {part.numbers["leg"]: part.line or 0 for part in failed}
 
 
 def goes_on(condition: str | None) -> bool:
@@ -98,11 +106,13 @@ def environment_of(number: int) -> dict[bytes, bytes]:
         text = Path(f"/proc/{number}/environ").read_bytes()
     except OSError:
         return {}
-    return dict(entry.split(b"=", 1) for entry in text.split(b"\0") if b"=" in entry)
+    pairs = (entry.partition(b"=") for entry in text.split(b"\0"))
+    return {name: value for name, equals, value in pairs if equals}
 
 
 def write_told(path: Path, text: str) -> None:
-    """Writes a file that steps may read at any time, at once. On a full disk there is none: a step then starts."""
+    """Writes a file that steps may read at any time, at once. On a full disk there is none: a step then
+    starts."""
     with contextlib.suppress(OSError):
         new = path.with_name(path.name + ".new")
         new.write_text(text, encoding="utf-8")
@@ -110,8 +120,8 @@ def write_told(path: Path, text: str) -> None:
 
 
 def add_line(path: Path, line: str, root: str = "/", done: set[tuple[int, int]] | None = None) -> None:
-    """Adds a line to a file of a step below a root, unless that is in `done`. No link is followed, and no file with a
-    second name is changed."""
+    """Adds a line to a file of a step below a root, unless that is in `done`. No link is followed, and no
+    file with a second name is changed."""
     opened: list[int] = []
     done = set() if done is None else done
     with contextlib.suppress(OSError):
@@ -153,7 +163,8 @@ class Growing:
         self.file = -1
 
     def stops(self) -> dict[int, tuple[int, str]]:
-        """The legs that have to stop by what was written since the last call, with their step then, and why."""
+        """The legs that have to stop by what was written since the last call, with their step then, and
+        why."""
         asked: tuple[int, dict[int, int]] | None = None  # after the last entry that may stop legs
         size = os.fstat(self.file).st_size if self.file >= 0 else 0
         text = os.pread(self.file, size - self.read, self.read) if size > self.read else b""
@@ -163,7 +174,8 @@ class Growing:
             event, leg = entry.get("event"), entry.get("leg", -1)
             if event == "begin":
                 self.begun[leg] = self.begun.get(leg, 0) + 1
-            elif event in self.entering or event == "finish" and self.fails_fast(leg):
+            elif event in self.entering or \
+                    event == "finish" and leg in self.failed and self.job_of[leg][1]["fail_fast"]:
                 asked = self.read, dict(self.begun)
             if event == "finish":
                 self.failed.discard(leg)
@@ -173,30 +185,20 @@ class Growing:
         self.marked |= stopped.keys()
         return {leg: (asked[1].get(leg, 0) - 1, cause) for leg, cause in stopped.items()}
 
-    def fails_fast(self, leg: int) -> bool:
-        """Whether the end of a leg may stop others."""
-        return leg in self.failed and self.job_of[leg][1]["fail_fast"]
-
     def ask(self, size: int) -> dict[int, str]:
         """The legs that have to stop on the board after that many bytes of the record, and why."""
-        answer = subprocess.run([program(), "replay", "/dev/stdin"], input=os.pread(self.file, size, 0),
-                                capture_output=True, check=False)
-        found: dict[int, str] = {}
+        try:
+            parts = parts_of(program(), os.pread(self.file, size, 0))
+        except Problem:
+            return {}
+        stops = [part.numbers for part in parts.values() if part.kind == "stop"]
+        found = {stop["leg"]: "a newer member of its group cancels it" for stop in stops if "leg" in stop}
         fast: dict[int, int] = {}             # job -> its first leg that failed
-        runs, failed = set(), set()
-        for line in answer.stdout.decode("utf-8", "replace").splitlines():
-            match = BOARD_LINE.fullmatch(line)
-            if match and match[1] == "run" and match[4]:
-                runs.add(int(match[2]))
-            elif match and match[1] == "leg" and match[3] == "ended failure":
-                failed.add(int(match[2]))
-            elif match and match[1] == "leg" and match[4]:
-                found[int(match[2])] = "a newer member of its group cancels it"
-            for leg in map(int, line.split()[1:] if line.startswith("ends ") else ()):
-                if leg in failed:
-                    fast.setdefault(self.job_of[leg][1]["number"], leg)
+        failed = failed_legs(parts)
+        for leg in sorted(failed, key=lambda leg: failed[leg]):
+            fast.setdefault(self.job_of[leg][1]["number"], leg)
         for leg, (run, job) in enumerate(self.job_of):
-            if run in runs and not references(condition_expression(job["condition"]) or "")[1]:
+            if f"stop run {run}" in parts and not references(condition_expression(job["condition"]) or "")[1]:
                 found[leg] = "a newer member of its run's group cancels it"
             elif job["fail_fast"] and fast.get(job["number"], leg) != leg:
                 found.setdefault(leg, f"{self.legs[fast[job['number']]].name} failed, and the job fails fast")
@@ -214,14 +216,16 @@ class Ender:
         self.due: list[tuple[float, int, Callable[[], None]]] = []
         self.numbers = itertools.count()
         self.running: dict[int, int] = {}                      # leg -> step
+        self.ended: dict[int, int] = {}                        # leg -> step that ended last
         self.begun: set[int] = set()                           # legs
         self.limited: set[int] = set()                         # legs whose job's limit is known
         self.late: set[int] = set()                            # legs whose time is over
         self.wanted: dict[tuple[int, int], str] = {}           # leg and step -> why it has to end
         self.causes: dict[tuple[int, int], str] = {}           # leg and step -> why it was ended
         self.known: set[tuple[int, int]] = set()               # legs and steps whose answer is given again
-        self.stopped: dict[int, tuple[str, list[int]]] = {}    # leg -> why, and the steps that may start
-        self.held: Callable[[int], float] = lambda leg: 0.0    # seconds for which a leg has waited for a person
+        self.stopped: dict[int, tuple[str, list[int]]] = {}    # leg -> why, and steps that may start, or had ended
+        # seconds for which a leg has waited for a person
+        self.held: Callable[[int], float] = lambda leg: 0.0
         self.timed_out = self.looking = False
         self.over = False
 
@@ -259,6 +263,7 @@ class Ender:
         with self.change:
             if state != "started":
                 self.running.pop(leg, None)
+                self.ended[leg] = step
                 if state == "failure":
                     self.growing.failed.add(leg)
             else:
@@ -276,7 +281,8 @@ class Ender:
                 self.after(0.0, self.look)
 
     def look(self) -> None:
-        """Ends the steps of legs that have to stop. The record grows after lines of progress: this looks again."""
+        """Ends the steps of legs that have to stop. The record grows after lines of progress: this looks
+        again."""
         self.looking = False
         for leg, (step, cause) in self.growing.stops().items():
             if step >= 0 and not goes_on(self.jobs[leg]["steps"][step]["condition"]):
@@ -299,7 +305,7 @@ class Ender:
     def find_limits(self, leg: int, step: int, names: list[str], tries: int = 50) -> None:
         """Sets limits that the step's own variables have, as soon as there is a process with them."""
         known = map(environment_of, self.processes(leg, step))
-        given = next((found for found in known if found.get(b"GITHUB_OUTPUT")), {})
+        given: dict[bytes, bytes] = next((found for found in known if found.get(b"GITHUB_OUTPUT")), {})
         texts = {name: os.fsdecode(given[name.encode()]) for name in names if name.encode() in given}
         for name, text in texts.items():
             self.set_limit(leg, step, name, text, TICK)
@@ -349,7 +355,8 @@ class Ender:
             if leg in self.stopped:
                 return
             steps = self.jobs[leg]["steps"] if leg in self.begun else []
-            allowed = [number for number, step in enumerate(steps) if goes_on(step["condition"])]
+            over = self.ended.get(leg, -1)
+            allowed = [number for number, step in enumerate(steps) if number <= over or goes_on(step["condition"])]
             self.stopped[leg] = cause, allowed
             write_told(self.told / f"stopped-{leg}", "".join(f"{line}\n" for line in (cause, *allowed)))
             step = self.running.get(leg)
@@ -359,7 +366,8 @@ class Ender:
             self.after(GRACE, lambda: self.stop_at_last(leg))
 
     def mark(self, leg: int, step: int) -> None:
-        """Sets the variable of a leg that was stopped, in the step's file here and where the step sees another."""
+        """Sets the variable of a leg that was stopped, in the step's file here and where the step sees
+        another."""
         done: set[tuple[int, int]] = set()
         for root in ("/", *(f"/proc/{number}/root" for number in self.processes(leg, step))):
             add_line(self.play / f"step-{leg}-{step}.env", "ACTRUN_STOPPED=true", root, done)
@@ -379,7 +387,7 @@ class Ender:
             self.causes[leg, step] = cause
             write_told(self.told / f"ended-{leg}-{step}", f"{cause}\n")
             for seconds, number in LADDER:
-                self.after(seconds, lambda number=number: self.signal(leg, step, number))
+                self.after(seconds, functools.partial(self.signal, leg, step, number))
 
     def signal(self, leg: int, step: int, number: int) -> None:
         """Sends a signal to all processes of a step that is still running."""
@@ -387,14 +395,16 @@ class Ender:
             send(number, self.processes(leg, step))
 
     def processes(self, leg: int, step: int) -> list[int]:
-        """The processes of a step: those that have its GITHUB_OUTPUT, and what descends from them. Where a step
-        threw its variables away, those that belong to no other step. What the program started only replaces the
-        step, if this process started the step elsewhere."""
+        """The processes of a step: those that have its GITHUB_OUTPUT, and what descends from them. Where a
+        step threw its variables away, those that belong to no other step. What the program started only
+        replaces the step, if this process started the step elsewhere."""
         child = self.execution.child if self.execution else None
         if child is None:
             return []
         known = session(None)
-        names = {number: environment_of(number).get(b"GITHUB_OUTPUT") for number in below([os.getpid()], known)}
+        names = {
+            number: environment_of(number).get(b"GITHUB_OUTPUT") for number in below([os.getpid()], known)
+        }
         wanted = os.fsencode(self.play / f"step-{leg}-{step}.out")
         found = below([number for number, name in names.items() if name == wanted], known)
         started = below(started_by_program(child.pid, known), known)
@@ -404,11 +414,11 @@ class Ender:
         return sorted(found - started or found)
 
     def refusal(self, leg: int, step: int) -> str:
-        """Why a step does not start; nothing where it may."""
+        """Why a step does not start; nothing if it may."""
         cause, allowed = self.stopped.get(leg, ("", []))
         return "" if step in allowed else cause
 
     def cause(self, leg: int, step: int) -> str:
-        """Why a step ended, or did not start; nothing where it was left alone."""
+        """Why a step ended, or did not start; nothing if it was left alone."""
         with self.change:
             return self.causes.get((leg, step)) or self.refusal(leg, step)

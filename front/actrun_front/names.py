@@ -1,24 +1,38 @@
-"""Names with expressions: what is known before execution is written out, what differs by leg is filled in later.
+"""Names with expressions: what is known before execution is written out, what differs by leg is filled in
+later.
 
 What only other jobs and steps give comes by a variable, which the prelude prints first in a step's output.
 """
 from __future__ import annotations
 
-import os
 import pathlib
 import re
-import stat
 from typing import Any, Dict, Set
 
-from .expressions import (PIECE, Access, EvaluationError, Replacement, Rules, has_expression, literal, references,
-                          rewrite, tokens)
+from .expressions import (
+    PIECE,
+    Access,
+    EvaluationError,
+    Replacement,
+    Rules,
+    has_expression,
+    literal,
+    references,
+    rewrite,
+    tokens,
+)
+from .files import first_bytes
 from .late_hashes import PREFIX
 from .lower_tree import EXPRESSION_CONTEXTS, Lowering, part, set_variable, steps_of
 
 JOB_NAME, STEP_NAME = "ACTRUN_JOB_NAME", "ACTRUN_NAME"
-STOPPED = "env.ACTRUN_STOPPED == 'true'"  # in a leg that was stopped from outside, which the board does not know
+# in a leg that was stopped from outside, which the board does not know
+STOPPED = "env.ACTRUN_STOPPED == 'true'"
 # what a plan has in place of these, so that they see such a stop
-SEEN = {"cancelled()": f"(cancelled() || {STOPPED})", "job.status": f"({STOPPED} && 'cancelled' || job.status)"}
+SEEN = {
+    "cancelled()": f"(cancelled() || {STOPPED})",
+    "job.status": f"({STOPPED} && 'cancelled' || job.status)",
+}
 # what the value of a late name may read; without calls and comparisons it cannot fail
 OF_JOB = {"github", "inputs", "vars", "needs", "strategy", "matrix"}
 OF_STEP = OF_JOB | {"env", "job", "steps"}
@@ -54,12 +68,7 @@ def name_late(lowering: Lowering, node: Any, variable: str, contexts: Set[str]) 
 
 def read_names(log: pathlib.Path, mark: str) -> Dict[str, str]:
     """The late names that the log of a step begins with, by their variables."""
-    try:
-        with open(os.open(log, os.O_RDONLY | os.O_NOFOLLOW | os.O_NONBLOCK | os.O_CLOEXEC), "rb") as file:
-            text = file.read(8192) if stat.S_ISREG(os.fstat(file.fileno()).st_mode) else b""
-    except OSError:
-        return {}
-    lines = text.decode("utf-8", "replace").split("\n")[1:3]
+    lines = first_bytes(log.parent, log.name, most=8192).decode("utf-8", "replace").split("\n")[1:3]
     signs = {f"{mark}+": JOB_NAME, f"{mark}-": STEP_NAME}
     return {variable: line[len(sign):]
             for line in lines for sign, variable in signs.items() if line.startswith(sign)}
@@ -75,13 +84,14 @@ def as_in_file(text: str) -> str:
 def known_variables(lowering: Lowering, known: Dict[str, Any], *nodes: Any) -> Dict[str, str]:
     """The variables of a workflow, job and step whose values are known before execution."""
     found = {name: value for node in nodes for name, value in part(node, "env").items()}
-    texts = {name: filled(lowering, value, known) if has_expression(value) else shown_text(value)
+    texts = {name: filled(lowering, value, known) if has_expression(value) else as_text(value)
              for name, value in found.items()}
     return {name: text for name, text in texts.items() if not has_expression(text)}
 
 
 def filled(lowering: Lowering, text: str, known: Dict[str, Any]) -> str:
-    """A name with the values of its expressions. Where one reads more than is known, its known parts have values."""
+    """A name with the values of its expressions. If an expression reads something unknown, its known parts
+    have values."""
     contexts = {**{name: lowering.contexts.get(name) or {} for name in EXPRESSION_CONTEXTS}, **known}
 
     def is_known(access: Access) -> bool:
@@ -99,15 +109,15 @@ def filled(lowering: Lowering, text: str, known: Dict[str, Any]) -> str:
         accesses, calls = references(found[1])
         try:
             if all(map(is_known, accesses)) and "hashfiles" not in calls:
-                return shown_text(lowering.value_of(found[1].strip(), contexts))
+                return as_text(lowering.value_of(found[1].strip(), contexts))
             return "${{" + rewrite(found[1], Rules(dict.fromkeys(contexts, value))) + "}}"
         except EvaluationError:
             return found[0]
     return PIECE.sub(piece, text)
 
 
-def shown_text(value: Any) -> str:
-    """A value as a part of a text."""
+def as_text(value: Any) -> str:
+    """A value of an expression as a text, as programs get it."""
     if value is None or isinstance(value, bool):
         return {None: "", False: "false", True: "true"}[value]
     return "Array" if isinstance(value, list) else "Object" if isinstance(value, dict) else str(value)

@@ -10,25 +10,30 @@ if TYPE_CHECKING:
 
 
 def next_steps(board: Board, flows: list[Flow], options: Any, has_record: bool,
-               has_page: bool) -> Iterator[str]:
-    """The commands that go on from here: the page, the debugger, and the first job in which a step failed."""
+               has_page: bool, has_snapshots: bool) -> Iterator[str]:
+    """The commands that go on from here: the page, the debugger, the step that failed, and the first job with
+    one."""
     if has_page:
         yield "open      actrun open"
     if has_record:
         yield "walk      actrun debug --last"
+    words = [*filter(None, [options.event]), *(["-W", options.workflows] if options.workflows else [])]
     job = failed_job(board, flows)
+    if job and has_snapshots:
+        yield "back      actrun try --from failed"
+    if board.is_brief:
+        yield f"all lines actrun try {shlex.join([*words, '--follow'])}"
     if job:
-        words = [options.event or "", *(["-W", options.workflows] if options.workflows else []), "-j", job]
-        yield f"again     actrun try {shlex.join(filter(None, words))}"
+        yield f"again     actrun try {shlex.join([*words, '-j', job])}"
 
 
 def failed_job(board: Board, flows: list[Flow]) -> str:
-    """The job, as the workflow names it, of the first step that failed; nothing where none did, or where -j
+    """The job, as the workflow names it, of the first step that failed; nothing if none did, or where -j
     would name others, too."""
-    good = {run for run, result in board.results if result == "success"}
     for leg, step in board.steps.failed:
         part = board.legs[leg]
-        if part.run in good or part.job.get("tolerate") or part.job["steps"][step].get("tolerate"):
+        is_tolerated = part.job.get("tolerate") or part.job["steps"][step].get("tolerate")
+        if board.results.get(part.run) == "success" or is_tolerated:
             continue
         made = part.job.get("id", "")
         name = next((job for job in flows[part.run].jobs if made == job or made.startswith(f"{job}__")), "")

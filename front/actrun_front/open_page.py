@@ -3,13 +3,13 @@ from __future__ import annotations
 
 import argparse
 import os
-import shutil
 import subprocess
 import sys
 from pathlib import Path
 
 from . import Problem
 from .last import find
+from .repository import of_system
 from .visible import visible
 
 OPENERS = ("xdg-open", "open")
@@ -24,11 +24,13 @@ def page_of(here: Path) -> str:
     return page
 
 
-def opener() -> str | None:
-    """The program that opens a page in a browser, where there is a screen for it."""
+def opener(here: Path) -> str | None:
+    """The program that opens a page in a browser, where there is a screen for it; never one of the repository
+    around a folder."""
     if not any(map(os.environ.get, SCREENS)) and sys.platform != "darwin":
         return None
-    return next(filter(None, map(shutil.which, OPENERS)), None)
+    found = (of_system(name, here) for name in OPENERS)
+    return next((place for place in found if os.path.isfile(place)), None)
 
 
 def main(arguments: list[str]) -> int:
@@ -36,22 +38,15 @@ def main(arguments: list[str]) -> int:
     reader = argparse.ArgumentParser(
         prog="actrun open", allow_abbrev=False,
         description="Opens the page of the last execution of this repository, and prints its place.",
-        epilog="Without a screen, or a program xdg-open, it prints the place alone.")
+        epilog="Without a screen or the program xdg-open it only prints the place.")
     reader.add_argument("-C", dest="directory", metavar="DIR", default=".",
-                        help="a folder of the repository (default: the current folder)")
+                        help="a directory of the repository (default: the current one)")
     folder = reader.parse_args(arguments).directory
-    try:
-        if not os.path.isdir(folder):
-            raise Problem(f"-C {folder}: there is no such folder")
-        page = page_of(Path(os.path.realpath(folder)))
-        print(visible(page), flush=True)
-        program = opener()
-        if program is None:
-            return 0
-        done = subprocess.run([program, page], stdin=subprocess.DEVNULL, check=False)
-        return 0 if done.returncode == 0 else 3
-    except (Problem, OSError) as problem:
-        print(visible(f"actrun: open: {problem}"), file=sys.stderr)
-        return getattr(problem, "status", 3)
-    except KeyboardInterrupt:
-        return 130
+    if not os.path.isdir(folder):
+        raise Problem(f"-C {folder}: there is no such directory")
+    here = Path(os.path.realpath(folder))
+    page = page_of(here)
+    print(visible(page), flush=True)
+    program = opener(here)
+    done = program and subprocess.run([program, page], stdin=subprocess.DEVNULL, check=False)
+    return 3 if done and done.returncode else 0

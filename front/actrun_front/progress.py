@@ -25,6 +25,7 @@ HIDDEN = "***"
 KINDS = ("outputs", "variables")
 REFUSED = (*(f"its file of {kind} is refused: {name}" for kind in KINDS for name in REFUSALS),
            "one of its values exceeds 65,536 bytes once masked")
+NO_LOG = "what it printed cannot be kept"
 UNSTARTED = ("no program is named for its action", "its folder is not there",
              "a file for it cannot be written")
 Place = Tuple[int, int]  # leg and step
@@ -94,21 +95,16 @@ class Steps:
     started: dict[Place, float] = field(default_factory=dict)           # steps that were said to start; when
     ended: set[Place] = field(default_factory=set)                      # and to end
     failed: list[Place] = field(default_factory=list)
-    shown: Place = (-1, -1)                                             # the step whose output began last
 
     def __post_init__(self) -> None:
-        self.last: tuple[str, Progress] = "", None
         self.masks = Masks()
         self.masks.hide_forms(set(filter(None, self.secrets)))
 
     def read(self, line: str) -> Progress:
-        """Leg, step, state, reason and seconds of a line; None of a line that is not about a step. Several
-        readers may ask about one line."""
-        if line is self.last[0]:
-            return self.last[1]
+        """Leg, step, state, reason and seconds of a line; None of a line that is not about a step."""
         found = read_progress(line)
-        if not found and HIDDEN in line and self.masks.forms:
-            found = self.looked_up(line, self.entries) if self.entries else self.guessed(line)
+        if not found and HIDDEN in line and self.masks.forms and self.entries:
+            found = self.looked_up(line, self.entries)
         if found:
             leg, step, state = found[:3]
             if state == "started":
@@ -116,7 +112,6 @@ class Steps:
             elif state != "refused":
                 self.ended.add((leg, step))
                 self.failed += [(leg, step)] if state == "failure" else []
-        self.last = line, found
         return found
 
     def looked_up(self, line: str, entries: Entries) -> Progress:
@@ -193,19 +188,3 @@ class Steps:
         shown, now = SECONDS.search(line), time.monotonic()
         took = shown[1] if shown else f"{now - self.started.get(place, now):.1f}"
         return self.plain(place, f"{end} in {took} s, 1 of 1 steps")
-
-    def guessed(self, line: str) -> Progress:
-        """What a line says where one secret takes the place of all that is hidden, if there is no record."""
-        forms = (line.replace(HIDDEN, secret) for secret in self.secrets if secret)
-        return next(filter(None, map(read_progress, forms)), None)
-
-    def begins(self, places: list[Place]) -> Place | None:
-        """The step whose output begins with a line that is the same for some steps. Outputs come in the order
-        of the record."""
-        found: Place | None = places[0]
-        if len(places) > 1:
-            order = list(self.entries.read()) if self.entries else []
-            later = order[order.index(self.shown) + 1:] if self.shown in order else order
-            found = next((place for place in later if place in places), None)
-        self.shown = found or self.shown
-        return found

@@ -1,6 +1,7 @@
 """What the page of `actrun report` shows of a record: boards by `replay`, logs, times.
 
-A board is kept as blocks: one for each run, job and leg, and one for the ended legs. A block is a list of numbers of texts, its head first.
+A board is kept as blocks: one for each run, job and leg, and one for the ended legs. A block is a list of
+numbers of texts, its head first.
 """
 from __future__ import annotations
 
@@ -11,11 +12,11 @@ import pathlib
 import re
 import subprocess
 from dataclasses import dataclass, field
-from typing import Any, Iterator
+from typing import Any, Generator, Iterator
 
 from . import Problem
 from .dap_logs import Masks, shown_logs
-from .dap_record import PICTURES, Record, refused
+from .dap_record import PICTURES, Board, Record, Stand, refused
 
 MOST = 100_000  # entries of a page
 LOGS = 1 << 20  # characters of logs, at most
@@ -51,7 +52,7 @@ class Texts:
 
 
 def value_of(line: str) -> int:
-    """Where the JSON of a line of a board begins; 0 where it has none."""
+    """Where the JSON of a line of a board begins; 0 if it has none."""
     word = line.partition(" ")[0]
     if word in ("step", "set", "out"):
         return len(line) - len(line.split(" ", 4 if word == "step" else 1)[-1])
@@ -60,14 +61,17 @@ def value_of(line: str) -> int:
 
 
 class Boards:
-    """The board at the first place of a page, and what each later place of the page changes, as `replay --changes` prints them."""
+    """The board at the first place of a page, and what each later place of the page changes, as `replay
+    --changes` prints them."""
 
     def __init__(self, program: str, record: pathlib.Path, masks: Masks, total: int, around: int | None):
         if around is not None and not 0 <= around <= total:
             raise Problem(f"--around {around}: the record has the places 0 to {total}")
         self.first = max(0, total - MOST if around is None else min(around - MOST // 2, total - MOST))
         self.last = min(total, self.first + MOST)
-        self.texts, self.steps, self.ids = Texts(masks), [], {}
+        self.texts = Texts(masks)
+        self.steps: list[list[list[int]]] = []
+        self.ids: dict[tuple[bytes, bytes], int] = {}
         self.blocks: dict[tuple[bytes, bytes], list[int]] = {}
         with contextlib.closing(places(program, record)) as found:
             self.open(next(found))
@@ -79,6 +83,8 @@ class Boards:
                     self.base = list(self.blocks.values())
         if len(self.steps) < self.last - self.first:
             raise Problem(f"{record}: the record changed while it was read; write the report again")
+        self.known, self.raw = (self.first, list(self.base)), list(self.texts.numbers)
+        self.stands: dict[tuple[bytes, bytes], tuple[list[int], Stand]] = {}
 
     def open(self, lines: list[bytes]) -> None:
         """Takes the board at place 0: runs, jobs, legs and the ended legs, each kind by its numbers."""
@@ -89,7 +95,8 @@ class Boards:
         self.base = list(self.blocks.values())
 
     def change(self, head: tuple[bytes, bytes], lines: list[str]) -> list[int]:
-        """Changes a block: its number, its head or -1 where that stays, how many lines stay, and the lines after these."""
+        """Changes a block: its number, its head or -1 where that stays, how many lines stay, and the lines
+        after these."""
         was, block = self.blocks[head], [self.texts.number(line) for line in lines]
         keep = len(was) - 1
         if keep and self.texts.texts[was[-1]].startswith("out "):
@@ -97,20 +104,51 @@ class Boards:
         self.blocks[head] = [block[0], *was[1:1 + keep], *block[1:]]
         return [self.ids[head], -1 if block[0] == was[0] else block[0], keep, *block[1:]]
 
+    def board_at(self, place: int) -> Board:
+        """The board at a place of the page. Raises Problem at a place before it."""
+        if place < self.first:
+            raise Problem(f"the page begins at place {self.first}")
+        at, blocks = self.known if place >= self.known[0] else (self.first, list(self.base))
+        for number, head, keep, *lines in itertools.chain(*self.steps[at - self.first:place - self.first]):
+            was = blocks[number]
+            blocks[number] = [was[0] if head < 0 else head, *was[1:1 + keep], *lines]
+        self.known, board = (place, blocks), Board()
+        for (kind, name), block in zip(self.ids, blocks):
+            if kind == b"ends":
+                board.ends = [int(self.raw[number]) for number in block[1:]]
+            else:
+                kinds: list[Stand] = getattr(board, f"{kind.decode()}s")
+                kinds.append(self.stand(kind, name, block))
+        return board
 
-def places(program: str, record: pathlib.Path) -> Iterator[list[bytes]]:
+    def stand(self, kind: bytes, name: bytes, block: list[int]) -> Stand:
+        """How a run, a job or a leg is by its block. It is read again only where the block is another one."""
+        found = self.stands.get((kind, name))
+        if found is None or found[0] is not block:
+            head, *more = (self.raw[number] for number in block)
+            board = Board.of([f"{kind.decode()} {name.decode()} {head}", *more])
+            found = self.stands[kind, name] = block, [*board.runs, *board.jobs, *board.legs][0]
+        return found[1]
+
+
+def places(program: str, record: pathlib.Path) -> Generator[list[bytes], None, None]:
     """The lines of each place: of place 0 the board, of each later place what it changes."""
-    with subprocess.Popen([program, "replay", "--changes", record], stdout=subprocess.PIPE, stderr=subprocess.PIPE) as process:
-        lines = None
+    with subprocess.Popen(
+        [program, "replay", "--changes", record], stdout=subprocess.PIPE, stderr=subprocess.PIPE
+    ) as process:
+        assert process.stdout is not None and process.stderr is not None
+        lines: list[bytes] = []
+        if not next(process.stdout, b"").startswith(b"place "):
+            raise refused(
+                record,
+                process.stderr.read().decode("utf-8", "replace").strip() or "`actrun replay` ended too early",
+            )
         for line in process.stdout:
-            if not line.startswith(b"place "):
-                lines.append(line)
-                continue
-            if lines is not None:
+            if line.startswith(b"place "):
                 yield lines
-            lines = []
-        if lines is None:
-            raise refused(record, process.stderr.read().decode("utf-8", "replace").strip() or "`actrun replay` ended too early")
+                lines = []
+            else:
+                lines.append(line)
         yield lines
 
 
@@ -131,8 +169,8 @@ def blocks_of(lines: list[bytes]) -> dict[tuple[bytes, bytes], list[str]]:
 
 
 def read_logs(record: Record, folder: pathlib.Path, masks: Masks, failed: set[str]) -> dict[str, str]:
-    """The masked logs of the steps that were called, those of failed steps first; a sentence where a log is left out. A step that was
-    running when the record ended has a log where a signal ended the run."""
+    """The masked logs of the steps that were called, those of failed steps first; a sentence where a log is
+    left out. A step that was running when the record ended has a log where a signal ended the run."""
     called: dict[int, list[int]] = {}
     for place, entry in enumerate(record.entries):
         if entry["event"] == "end" and entry["answer"]["kind"] != "not-started":
@@ -156,8 +194,11 @@ def read_logs(record: Record, folder: pathlib.Path, masks: Masks, failed: set[st
     return found
 
 
-def leg_logs(folder: pathlib.Path, leg: int, steps: list[int], masks: Masks) -> Iterator[tuple[int, str, bool]]:
-    """Of each step of a leg what is shown of its log, or why none is, and whether it is a log. `steps` are those that were called."""
+def leg_logs(
+    folder: pathlib.Path, leg: int, steps: list[int], masks: Masks
+) -> Iterator[tuple[int, str, bool]]:
+    """Of each step of a leg what is shown of its log, or why none is, and whether it is a log. `steps` are
+    those that were called."""
     unread = None
     for step, (text, known) in enumerate(shown_logs(folder, leg, masks)):
         path = folder / f"step-{leg}-{step}.log"
@@ -175,21 +216,26 @@ def leg_logs(folder: pathlib.Path, leg: int, steps: list[int], masks: Masks) -> 
 
 
 def read_times(path: pathlib.Path, entries: int, ended: bool = False) -> dict[str, Any]:
-    """The wall clock of the start, in milliseconds since 1970, and the milliseconds of each entry since then. Further numbers are left
-    out, since the record may be the first part of one; but where all its runs have `ended`, it is whole."""
+    """The wall clock of the start, in milliseconds since 1970, and the milliseconds of each entry since then.
+    Further numbers are left out, since the record may be the first part of one; but where all its runs have
+    `ended`, it is whole."""
     try:
         with open(path, "rb") as file:
             lines = [line.rstrip(b"\r\n") for line in itertools.islice(file, entries + 2)]
     except OSError as fault:
-        raise Problem(f"--times {path}: {fault.strerror}: name a file that `actrun run --times` wrote") from None
+        raise Problem(
+            f"--times {path}: {fault.strerror}: name a file that `actrun run --times` wrote"
+        ) from None
     wrong = misfit(lines, entries, ended)
     if wrong:
-        raise Problem(f"--times {path}: {wrong}: name the file that `actrun run --times` wrote beside this record")
+        raise Problem(
+            f"--times {path}: {wrong}: name the file that `actrun run --times` wrote beside this record"
+        )
     return {"start": int(lines[0]), "entries": [int(line) for line in lines[1:entries + 1]]}
 
 
 def misfit(lines: list[bytes], entries: int, ended: bool) -> str:
-    """The first line of a file of times that does not fit a record, and why; nothing where all fit."""
+    """The first line of a file of times that does not fit a record, and why; nothing if all fit."""
     for number, line in enumerate(lines[:entries + 1], 1):
         if not TIME.fullmatch(line):
             return f"line {number} is no number of milliseconds"
@@ -197,4 +243,8 @@ def misfit(lines: list[bytes], entries: int, ended: bool) -> str:
             return f"line {number} is less than line {number - 1}"
     if len(lines) <= entries:
         return f"line {len(lines) + 1} is missing, since the record has {entries + 1} lines"
-    return f"line {entries + 2} is too many, since the record has {entries + 1} lines" if ended and len(lines) > entries + 1 else ""
+    return (
+        f"line {entries + 2} is too many, since the record has {entries + 1} lines"
+        if ended and len(lines) > entries + 1
+        else ""
+    )

@@ -20,42 +20,38 @@ function table(pairs) {
   return found;
 }
 
-// what `why` says of a part: where it names one that it told of above, what it told is put there, unless this text has that already
-function whyLines(key, seen = new Set()) {
-  const found = [];
-  seen.add(key);
-  for (const line of data.why[key].split('\n')) {
-    const [, indent, kind, number] = /^( *)(run|job|leg) (\d+) \(/.exec(line) || [];
-    const named = kind && line.endsWith(' (above)') && `${line.endsWith(' was told to stop (above)') ? 'stop ' : ''}${kind} ${number}`;
-    if (named && data.why[named] !== undefined && !seen.has(named) && found.length < 500) {
-      found.push(...whyLines(named, seen).map((it) => indent + it));
-    } else {
-      found.push(line);
-      if (kind) seen.add(line.includes(') was told to stop at line ') ? `stop ${kind} ${number}` : `${kind} ${number}`);
-    }
+// The lines that `why` prints of a part, with their depths: below each part, before the others, are those that made it so, unless
+// this text has them already.
+function whyLines(key) {
+  const found = [], left = [[key, 0]], seen = new Set();
+  while (left.length && found.length < 500) {
+    const [words, depth] = left.pop(), [name, said, because] = data.why[words];
+    const above = seen.has(words);
+    const told = words.startsWith('stop ') ? ' was told to stop (above)' : ' (above)';
+    found.push({words, depth, name, said: above ? told : said});
+    seen.add(words);
+    if (!above) left.push(...because.filter((it) => data.why[it]).map((it) => [it, depth + 1]).reverse());
   }
   return found;
 }
 
+// the row of a part that `why` is asked about by these words
+function whyRow(words) {
+  const [kind, ...numbers] = words.replace('stop ', '').split(' ');
+  if (kind === 'step') return legs[numbers[0]] && legs[numbers[0]].children[numbers[1]];
+  return {run: runs, job: jobs, leg: legs}[kind][numbers[0]];
+}
+
 // the lines of `why`: names lead to their rows, lines of the record to their places
-function whyText(lines, leg) {
+function whyText(lines) {
   const found = mark(make('pre'), {id: 'why'});
-  let above = leg;
-  lines.forEach((line, at) => {
-    const [, indent, kind, number] = /^( *)(run|job|leg|step) (\d+) \(/.exec(line) || [];
+  lines.forEach(({words, depth, name, said}, at) => {
     if (at) found.append('\n');
-    const row = make('bdi');
+    const row = make('bdi'), one = whyRow(words), called = name.split(' ', 2).join(' ');
     found.append(row);
-    let rest = line;
-    if (kind) {
-      if (kind === 'leg') above = legs[number];
-      const one = {run: runs[number], job: jobs[number], leg: legs[number], step: above && above.children[number]}[kind];
-      if (one) {
-        row.append(indent, link(`${kind} ${number}`, () => choose(one, true)));
-        rest = line.slice(indent.length + kind.length + 1 + number.length);
-      }
-    }
-    for (const piece of rest.split(/\b(line \d+)\b/)) {
+    row.append('  '.repeat(depth), link(called, () => choose(one, true)));
+    add(row, name.slice(called.length));
+    for (const piece of said.split(/\b(line \d+)\b/)) {
       const target = /^line (\d+)$/.exec(piece), to = target && Number(target[1]) - 1;
       if (target && to >= FIRST && to <= LAST) row.append(placeLink(to, piece)); else add(row, piece);
     }
@@ -116,18 +112,20 @@ function sinceOf(one) {
 
 function drawWhy(one) {
   const words = one.kind === 'step' ? `step ${one.parent.number} ${one.number}` : `${one.kind} ${one.number}`;
-  const leg = one.kind === 'step' ? one.parent : null, when = place < data.total ? `as it is at the end, place ${data.total}` : '';
+  const when = place < data.total ? `as it is at the end, place ${data.total}` : '';
   if (data.why[words] !== undefined) {
-    section(['Why', when], whyText(whyLines(words), leg));
+    section(['Why', when], whyText(whyLines(words)));
   } else if (stand(one, LAST).state !== 'success') {
     const line = make('p', 'ask', 'Ask: ');
     line.append(make('code', '', `actrun why ${data.record} ${words}`));
     section(['Why', when], line);
   }
+  if (data.values[words] !== undefined) section(['Values', 'that decided it'], mark(make('pre', '', data.values[words]), {id: 'values'}));
 }
 
 function drawStep(one) {
   drawLog(one);
+  drawFiles(one);
   const steps = doneAt(one.parent, place).steps, own = steps[one.number];
   if (own && Object.keys(own.outputs).length) section(['Outputs'], table(Object.entries(own.outputs)));
   if (own && Object.keys(own.set).length) section(['Variables', 'it set for later steps'], table(Object.entries(own.set)));
@@ -152,6 +150,14 @@ function drawLog(one) {
     note.append(placeLink(done));
     section(['Log'], note);
   }
+}
+
+// what a step changed in its workspace, once it has ended
+function drawFiles(one) {
+  const {done} = spans(one.parent)[one.number], files = (data.files || {})[`${one.parent.number}-${one.number}`] || [];
+  if (!files.length || done === null || done > place) return;
+  const words = files.map(([kind, path]) => `${kind} ${path}`).join('\n');
+  section(['Files', 'that it added (A), changed (M) and deleted (D)'], mark(make('pre', '', words), {id: 'files', tabindex: 0}));
 }
 
 // the lines that `::error::` and its like made, and those that begin like them, have marks; so has what is searched for

@@ -11,6 +11,7 @@ import functools
 import os
 import subprocess
 from pathlib import Path
+from typing import IO
 
 from . import Problem
 from .files import read_below
@@ -23,6 +24,7 @@ FIXED = ("core.fsmonitor=false", "core.hooksPath=/dev/null", "core.untrackedCach
          "core.alternateRefsCommand=", "credential.helper=", "gpg.program=false",
          "safe.bareRepository=explicit",
          "log.showSignature=false", "maintenance.auto=false", "gc.auto=0", "fetch.writeCommitGraph=false")
+OF_BARE = (("core.fsync", "none"), ("core.looseCompression", "1"), ("pack.window", "0"))
 VARIABLES = {"GIT_NO_LAZY_FETCH": "1", "GIT_TERMINAL_PROMPT": "0", "GIT_CONFIG_NOSYSTEM": "1",
              "GIT_OPTIONAL_LOCKS": "0",
              "GIT_ALLOW_PROTOCOL": "none", "GIT_ASKPASS": "false", "SSH_ASKPASS": "false",
@@ -82,14 +84,14 @@ def top_by_name(folder: Path) -> Path:
     return next((top for top in (start, *start.parents) if os.path.lexists(top / ".git")), start)
 
 
-def run(folder: Path, words: tuple[str, ...],
-        variables: dict[str, str]) -> subprocess.CompletedProcess[bytes]:
-    """The answer of git with some variables; status 127 where it is not installed."""
+def run(folder: Path, words: tuple[str, ...], variables: dict[str, str],
+        given: IO[bytes] | None = None) -> subprocess.CompletedProcess[bytes]:
+    """The answer of git with some variables and a file as its input; status 127 where it is not installed."""
     try:
         return subprocess.run([of_system("git", folder), "-C", os.fspath(folder), "--no-pager",
                                "--no-replace-objects", "--literal-pathspecs", *words],
-                              env=variables, stdin=subprocess.DEVNULL, capture_output=True, check=False,
-                              timeout=PATIENCE)
+                              env=variables, stdin=given or subprocess.DEVNULL, capture_output=True,
+                              check=False, timeout=PATIENCE)
     except subprocess.TimeoutExpired:
         raise Problem(f"{folder}: git did not answer in {PATIENCE} s: `git {words[0]}` there shows what it "
                       "waits for", 3) from None
@@ -129,15 +131,22 @@ def ask(folder: Path, *words: str) -> subprocess.CompletedProcess[bytes]:
     return run(Path(folder), words, environment(top, without_programs(top)))
 
 
+def ask_bare(folder: Path, *words: str, given: IO[bytes] | None = None) -> subprocess.CompletedProcess[bytes]:
+    """The whole answer of git about a bare repository that the front made; `given` becomes its input."""
+    return run(folder, (f"--git-dir={folder}", *words), environment(None, OF_BARE), given)
+
+
 def make(folder: Path, *words: str) -> subprocess.CompletedProcess[bytes]:
     """Makes an empty repository, with nothing of a template; gives the answer of git."""
-    answer = run(folder, ("-c", "init.defaultRefFormat=files", "init", "-q", "--template=", *words), environment(None))
+    answer = run(
+        folder, ("-c", "init.defaultRefFormat=files", "init", "-q", "--template=", *words), environment(None)
+    )
     find_top.cache_clear()
     return answer
 
 
 def git(folder: Path, *words: str) -> str | None:
-    """What git prints, without the last newline; None where it fails or is not installed. It writes
+    """What git prints, without the last newline; None if it fails or is not installed. It writes
     nothing and executes nothing."""
     answer = ask(folder, *words)
     return answer.stdout.decode("utf-8", "replace").removesuffix("\n") if answer.returncode == 0 else None
@@ -145,7 +154,7 @@ def git(folder: Path, *words: str) -> str | None:
 
 @functools.lru_cache(maxsize=None)
 def find_top(folder: Path) -> Path | None:
-    """The top of the working tree around a folder; None where there is no repository. Embedded bare
+    """The top of the working tree around a folder; None if there is no repository. Embedded bare
     repositories are none."""
     start = Path(os.path.realpath(folder))
     for top in (start, *start.parents):
@@ -205,28 +214,34 @@ def check(top: Path, named: tuple[Path, ...] = ()) -> None:
     for folder in (own, common, common / "objects"):
         for entry in os.scandir(folder) if folder.is_dir() else ():
             if entry.is_symlink() and not any(is_below(entry.path, one) for one in ours):
-                raise Problem(f"{entry.path}: this link leads to {os.path.realpath(entry.path)}, outside of the "
-                              "repository: --bind PATH lets steps read it")
+                raise Problem(
+                    f"{entry.path}: this link leads to {os.path.realpath(entry.path)}, outside of the "
+                    "repository: --bind PATH lets steps read it"
+                )
     alternates(common / "objects", ours)
 
 
 def alternates(objects: Path, allowed: tuple[Path, ...], seen: tuple[Path, ...] = ()) -> list[Path]:
-    """The folders of objects that a folder of objects borrows from. Raises Problem where one is neither
+    """The folders of objects that a folder of objects borrows from. Raises Problem if one is neither
     below the repository nor named."""
-    file, found = objects / "info" / "alternates", []
+    file = objects / "info" / "alternates"
+    found: list[Path] = []
     try:
         lines = os.fsdecode(read_below(objects, "info", "alternates", most=1 << 20)).splitlines()
     except FileNotFoundError:
         return []
     except OSError as error:
-        raise Problem(f"{file}: {error.strerror}: it names folders of objects, so it has to be a plain file") from None
+        raise Problem(
+            f"{file}: {error.strerror}: it names directories of objects, so it must be a plain file"
+        ) from None
     for line in filter(None, lines):
         if line.startswith("#"):
             continue
         path = Path(os.path.realpath(objects / line.strip('"')))
         if not any(is_below(path, one) for one in allowed):
-            raise Problem(f"{file}: the repository borrows objects from {path}: --bind {path} lets steps read "
-                          "them")
+            raise Problem(
+                f"{file}: the repository borrows objects from {path}: --bind {path} lets steps read " "them"
+            )
         if path not in (*seen, objects):
             found += [path, *alternates(path, allowed, (*seen, objects, *found))]
     return found

@@ -1,4 +1,5 @@
-"""`actrun timeline --times FILE RECORD`: the program's chart of a record, each bar moved from its lines to the times of these lines."""
+"""`actrun timeline --times FILE RECORD`: the program's chart of a record, each bar moved from its lines to
+the times of these lines."""
 from __future__ import annotations
 
 import contextlib
@@ -24,9 +25,33 @@ RECT, TITLE = (f"{{{SVG}}}{name}" for name in ("rect", "title"))
 LINES = re.compile(r", line (\d+)(?: to (\d+|the end))?\Z")  # what ends the text of a bar or a mark
 LEFT, RIGHT, MARK = 430, 1330, 4  # the ends of the lanes; how wide a mark is
 SECOND, MINUTE, HOUR = 1000, 60_000, 3_600_000
-STEPS = [1, 2, 5, 10, 20, 50, 100, 200, 500, *(SECOND * it for it in (1, 2, 5, 10, 15, 30)), *(MINUTE * it for it in (1, 2, 5, 10, 15, 30)),
-         *(HOUR * it for it in (1, 2, 3, 6, 12))]
+STEPS = [
+    1,
+    2,
+    5,
+    10,
+    20,
+    50,
+    100,
+    200,
+    500,
+    *(SECOND * it for it in (1, 2, 5, 10, 15, 30)),
+    *(MINUTE * it for it in (1, 2, 5, 10, 15, 30)),
+    *(HOUR * it for it in (1, 2, 3, 6, 12)),
+]
 MOST_STEPS = 10
+
+
+def title_of(shape: ElementTree.Element) -> str:
+    """The text of a shape."""
+    return shape.findtext(TITLE) or ""
+
+
+def name_shape(shape: ElementTree.Element, text: str) -> None:
+    """Gives a shape that has a text another one."""
+    for title in shape.iter(TITLE):
+        title.text = text
+        return
 
 
 @dataclass
@@ -40,23 +65,29 @@ class Clock:
         return LEFT + moment * (RIGHT - MARK - LEFT) // max(self.moments[-1], 1)
 
     def move(self, bar: ElementTree.Element) -> None:
-        """Moves a bar or a mark to the times of the lines that its text names, and adds these to the text; the keys name no lines."""
-        title = bar.find(TITLE)
-        lines = LINES.search(title.text)
+        """Moves a bar or a mark to the times of the lines that its text names, and adds these to the text;
+        the keys name no lines."""
+        title = title_of(bar)
+        lines = LINES.search(title)
         if lines is None:
             return
         begin, is_bar, goes_on = self.moments[int(lines[1]) - 1], lines[2] is not None, lines[2] == "the end"
-        title.text += f", {spelled(begin)}"
+        title += f", {spelled(begin)}"
         bar.set("x", str(self.place(begin)))
         if is_bar:
             end = 0 if goes_on else self.moments[int(lines[2]) - 1]
-            title.text += " to the end" if goes_on else f" to {spelled(end)}"
+            title += " to the end" if goes_on else f" to {spelled(end)}"
             bar.set("width", str(max((RIGHT if goes_on else self.place(end)) - self.place(begin), 1)))
+        name_shape(bar, title)
 
     def ticks(self) -> range:
         """The moments that the scale names."""
         doubled = (24 * HOUR << power for power in itertools.count())
-        return range(0, self.moments[-1] + 1, next(it for it in itertools.chain(STEPS, doubled) if self.moments[-1] // it <= MOST_STEPS))
+        return range(
+            0,
+            self.moments[-1] + 1,
+            next(it for it in itertools.chain(STEPS, doubled) if self.moments[-1] // it <= MOST_STEPS),
+        )
 
     def scale(self, line: ElementTree.Element, label: ElementTree.Element) -> Iterator[ElementTree.Element]:
         """The clock of the start and the scale of time, like a line of the record and its label."""
@@ -89,12 +120,13 @@ def like(shape: ElementTree.Element, left: int, text: str) -> ElementTree.Elemen
 
 
 def by_time(chart: bytes, times: pathlib.Path, ended: bool) -> str:
-    """A chart of the program by the times in a file; `ended` says whether all runs of its record are closed."""
+    """A chart of the program by the times in a file; `ended` says whether all runs of its record are
+    closed."""
     root = ElementTree.fromstring(chart)
     shapes = list(root)
     # (each line of the record is followed by its label; the third of them is the last line)
     lines = [at for at, it in enumerate(shapes) if it.get("class") == "line"]
-    found = read_times(times, int(shapes[lines[-1]].find(TITLE).text.split()[1]) - 1, ended)
+    found = read_times(times, int(title_of(shapes[lines[-1]]).split()[1]) - 1, ended)
     clock = Clock(found["start"], [0, *found["entries"]])
     for at in lines:
         root.remove(shapes[at])
@@ -102,17 +134,9 @@ def by_time(chart: bytes, times: pathlib.Path, ended: bool) -> str:
     for bar in root.iter(RECT):
         clock.move(bar)
     root.extend(clock.scale(*shapes[lines[0]:lines[0] + 2]))
-    root.find(TITLE).text = f"timeline from {clock.wall()}"
+    name_shape(root, f"timeline from {clock.wall()}")
     ElementTree.register_namespace("", SVG)
     return ElementTree.tostring(root, encoding="unicode") + "\n"
-
-
-def beside(chart: subprocess.CompletedProcess[str], times: pathlib.Path) -> str:
-    """A chart that the program printed, by the times in a file where these fit its record."""
-    try:
-        return by_time(chart.stdout.encode("utf-8"), times, chart.returncode != 4)
-    except (Problem, ElementTree.ParseError):
-        return chart.stdout
 
 
 def put(stream: int, text: str) -> None:
@@ -127,10 +151,14 @@ def draw(arguments: list[str]) -> int:
     options, operands, wrong = take_apart("timeline", arguments)
     if wrong or "--times" not in options:
         raise Problem("words")
-    done = subprocess.run([program(), "timeline", "--", *operands], stdout=subprocess.PIPE, stderr=subprocess.PIPE, check=False)
+    done = subprocess.run(
+        [program(), "timeline", "--", *operands], stdout=subprocess.PIPE, stderr=subprocess.PIPE, check=False
+    )
     if done.returncode not in (0, 1, 4):
         line = done.stderr.decode("utf-8", "replace").strip()
-        raise Problem(line, done.returncode) if done.returncode > 0 else Problem(f"signal {-done.returncode} ended the program", 3)
+        raise Problem(line, done.returncode) if done.returncode > 0 else Problem(
+            f"signal {-done.returncode} ended the program", 3
+        )
     put(1, by_time(done.stdout, pathlib.Path(options["--times"]), done.returncode != 4))
     return done.returncode
 

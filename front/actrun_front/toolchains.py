@@ -1,4 +1,5 @@
-"""Tools of this machine for steps: the Python of programs for actions, and the tool caches that steps may read."""
+"""Tools of this machine for steps: the Python of programs for actions, and the tool caches that steps may
+read."""
 from __future__ import annotations
 
 import os

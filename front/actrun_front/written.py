@@ -1,17 +1,16 @@
 """How the user wrote what the front made: the steps of inlined actions, and the jobs of called workflows."""
 from __future__ import annotations
 
-import re
-from dataclasses import dataclass
-from typing import TYPE_CHECKING, Any, Callable, Dict, Iterable, Iterator, List, NamedTuple, Optional, Tuple
+from dataclasses import dataclass, field
+from typing import (TYPE_CHECKING, Any, Callable, Dict, FrozenSet, Iterable, List, Mapping, NamedTuple,
+                    Optional, Sequence, Tuple)
 
 from .yaml_reader import Path, members
 
 if TYPE_CHECKING:
     from .present import Leg
 
-NAMED = re.compile(r"( *)(job|leg|step) (\d+) \(")
-UNTRUE = ": its condition is not true: "
+MOST_NAMED = 4  # names around a step
 
 
 class Owner(NamedTuple):
@@ -33,8 +32,6 @@ class Part:
 
 
 Parts = Dict[Path, Part]
-# the part of a "job" by its number, or of a "leg" and its step
-Places = Callable[[str, int, Optional[int]], Optional[Part]]
 Put = Optional[Tuple[List[str], str, Optional[Part]]]  # what `Outline` says of a part
 Find = Callable[[int, str, Optional[int]], Optional[Part]]  # the part of a run, a job and a step
 
@@ -47,7 +44,7 @@ def note_written(nodes: Iterable[Any], user: Any) -> None:
 
 
 def text_of(condition: Any) -> str:
-    """A condition as a text; nothing where there is none."""
+    """A condition as a text; nothing if there is none."""
     if isinstance(condition, bool):
         return str(condition).lower()
     return "" if condition is None else str(condition).strip()
@@ -116,41 +113,47 @@ class Outline:
         return lines[known:], indent + "  " * len(owners), part
 
 
-def unseen_steps(legs: Iterable[Leg], find: Find) -> set[Tuple[int, int]]:
-    """Legs with those of their steps that only close an action, which the user did not write."""
-    places = ((leg, at) for leg in legs for at in range(len(leg.job["steps"])))
-    parts = ((leg.number, at, find(leg.run, leg.job["id"], at)) for leg, at in places)
-    return {(leg, at) for leg, at, part in parts if part and part.is_end}
+@dataclass(frozen=True)
+class Made:
+    """Which steps of a plan the front made, by leg and step."""
+
+    ends: FrozenSet[Tuple[int, int]] = frozenset()     # they only close an action
+    opens: FrozenSet[Tuple[int, int]] = frozenset()    # they only open one
+    # they only close a call, and fail where a job of it did
+    calls: FrozenSet[Tuple[int, int]] = frozenset()
+    # the actions around a step
+    owners: Mapping[Tuple[int, int], Tuple[str, ...]] = field(default_factory=dict)
+    jobs: Mapping[int, str] = field(default_factory=dict)  # of legs, by the ids that the user wrote
 
 
-def as_written(lines: Iterable[str], places: Places) -> Iterator[str]:
-    """The lines of `why` with the conditions of made parts as the user wrote them."""
-    above: Dict[int, int] = {}  # the legs of the lines above, by their depth
-    for line in lines:
-        found = NAMED.match(line)
-        if found:
-            depth, kind, number = len(found[1]), found[2], int(found[3])
-            above = {other: leg for other, leg in above.items() if other < depth}
-            if kind == "leg":
-                above[depth] = number
-            elif UNTRUE in line:
-                leg = above[max(above)] if above else None
-                of_step = None if leg is None or kind == "job" else places("leg", leg, number)
-                part = places(kind, number, None) if kind == "job" else of_step
-                line = line.partition(UNTRUE)[0] + untrue(part) if part else line
-        yield line
+def within(labels: Iterable[str], name: str) -> str:
+    """A step behind the actions that it is in. Of many only the first and the last are named."""
+    first, *rest = [*labels, name]
+    return " / ".join((first, *(rest if len(rest) < MOST_NAMED else ("…", *rest[-2:]))))
 
 
-def untrue(part: Part) -> str:
-    """Why a made part was skipped."""
-    owner = part.owners[-1]
-    own = part.condition if part.is_shown else ""
-    if own and not owner.condition:
-        return UNTRUE + shown(own)
-    if not own:
-        outer = f": the condition of {owner.label} is not true: {shown(owner.condition)}"
-        return outer if owner.condition else f": {owner.label} does not go on"
-    return f": its condition, {shown(own)}, or that of {owner.label}, {shown(owner.condition)}, is not true"
+def made_steps(legs: Sequence[Leg], find: Find) -> Made:
+    """The steps that the user did not write."""
+    places = [(leg, at) for leg in legs for at in range(len(leg.job["steps"]))]
+    parts = {(leg.number, at): find(leg.run, leg.job["id"], at) for leg, at in places}
+    found = {place: part for place, part in parts.items() if part}
+    jobs = {leg.number: find(leg.run, leg.job["id"], None) for leg in legs}
+    calls = frozenset((leg.number, at) for leg, at in places if is_closing(jobs[leg.number]))
+    ends = frozenset(place for place, part in found.items() if part.is_end)
+    opens = frozenset(place for place, part in found.items() if not part.is_shown) - ends
+    shown = {place: part for place, part in found.items() if part.is_shown}
+    owners = {place: tuple(owner.label for owner in part.owners) for place, part in shown.items()}
+    return Made(ends, opens, calls, owners, {leg.number: job_of(leg.job, jobs[leg.number]) for leg in legs})
+
+
+def job_of(job: Any, part: Optional[Part]) -> str:
+    """A job of a plan by the ids that the user wrote: `CALL/JOB` for a job of a called workflow."""
+    return str(job["id"]).replace("__", "/") if part else str(job["id"])
+
+
+def is_closing(job: Optional[Part]) -> bool:
+    """Whether a job only closes a call, and fails where a job of the call did."""
+    return job is not None and not job.is_shown and bool(job.name)
 
 
 def shown(condition: str) -> str:

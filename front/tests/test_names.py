@@ -5,7 +5,7 @@ import os
 import unittest
 
 from actrun_front.names import read_names
-from actrun_front.present import legs_of, placed
+from actrun_front.present import legs_of
 
 from .lower_case import LowerCase, needs_program
 from .try_case import NEEDS_PROGRAM, TryCase
@@ -36,7 +36,6 @@ class Lowered(LowerCase):
         flow = self.lower("run-name: by ${{ github.actor }} to ${{ inputs.where }}\non: push\njobs: {a: {name: \"${{ github.actor }}'s\", steps: [{run: x}]}}")
         self.assertEqual((flow["run-name"], flow["jobs"]["a"]["name"]), ("by ada to there", "ada's"))
 
-
     def test_names_that_others_give(self) -> None:
         job = self.job("    name: ${{ needs.a.outputs.b }}\n    steps:\n      - {run: x, name: '${{ steps.a.outputs.b || env.X }} ${{ github.sha }}'}\n"
                        "      - {run: x, name: '${{ fromJSON(steps.a.outputs.b) }}'}\n      - {run: x, name: '${{ secrets.A }}'}\n"
@@ -61,10 +60,6 @@ class Shown(unittest.TestCase):
         job = {"id": "a", "number": 0, "name": "On ${{ matrix.v && 'yes' || 'no' }} ${{ matrix.v }}", "legs": [{"v": 0}, {"v": 7}], "steps": []}
         legs = legs_of({"runs": [{"jobs": [job]}]})
         self.assertEqual([leg.name for leg in legs], ["On no 0", "On yes 7"])
-        condition = "(cancelled() || env.ACTRUN_STOPPED == 'true') && (env.ACTRUN_STOPPED == 'true' && 'cancelled' || job.status)"
-        self.assertEqual(list(placed([condition], legs, lambda run, job, step: "")), ["cancelled() && job.status"])
-        lines = ["leg 0 (${{ matrix.v }}) ended: leg 1 (${{ matrix.v }}) failed", "  step 0 (x ${{ matrix.v }}) failed", "leg 9 (${{ matrix.v }})"]
-        self.assertEqual(list(placed(lines[:2], legs, lambda run, job, step: "")), ["leg 0 (0) ended: leg 1 (7) failed", "  step 0 (x 0) failed"])
 
     @NEEDS_PROGRAM
     def test_names_that_have_no_value_stay(self) -> None:
@@ -97,7 +92,7 @@ jobs:
         self.assertIn(" make: of CI, ", done.stderr)
         self.assertIn(" Use success in a: exit 1, exit 1, ", done.stderr)
         self.assertRegex(done.stdout, r"(?m)^\S+ Deploy push \(CI, \.github/workflows/ci\.yml\): failure$")
-        self.assertIn("leg 1 (Use success in a, x a) ended failure", done.stdout)
+        self.assertIn("leg 1 (Use success in a) ended failure", done.stdout)
 
     def test_late_names(self) -> None:
         self.write(".github/workflows/ci.yml", """\

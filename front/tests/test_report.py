@@ -127,7 +127,7 @@ class Written(ReportCase):
         log = record.with_name("step-0-0.log")
         log.unlink()
         log.symlink_to(hidden)
-        shown = report.shown(PROGRAM, record, logs=record.parent)
+        shown = report.shown(report.read_record(PROGRAM, record), record, logs=record.parent)
         self.assertEqual(shown["logs"], {"0-0": "(left out: step-0-0.log is a link)",
                                          "0-1": "(left out: step-0-0.log cannot be read, so what it masks is not known)"})
         self.assertNotIn("private-words", self.page(record, logs=record.parent).read_text(encoding="utf-8"))
@@ -140,7 +140,7 @@ class Written(ReportCase):
         self.assertRaisesRegex(Problem, "--around 99: the record has the places 0 to 9", report.page, PROGRAM,
                                EXAMPLES / "skipped.record", around=99)
         self.assertRaisesRegex(Problem, "--around -1: the record has", report.page, PROGRAM, EXAMPLES / "skipped.record", around=-1)
-        for name, said in (("refused.record", "line 2 WrongState: .*refused.record:2: the entry cannot follow"), ("ci.json", "load NotJson: .*: .* no JSON"),
+        for name, said in (("refused.record", "line 2 WrongState: .*refused.record:2: the entry cannot follow"), ("ci.json", "load NotJson: .*: .* not JSON"),
                            ("cut.record", "line 4 NotEntry: .*cut.record:4: .*cut short.*: head -n 3 .*cut.record > RECORD")):
             self.assertRaisesRegex(Problem, said, report.page, PROGRAM, EXAMPLES / name)
         self.assertRaisesRegex(Problem, "none: ", report.page, PROGRAM, EXAMPLES / "none")
@@ -155,7 +155,7 @@ class Written(ReportCase):
         self.assertIn("usage: actrun report", ask("--help").stdout)
         self.assertEqual([ask(*words).returncode for words in (["no"], ["r", "--logs", "no"], [])], [2, 2, 2])
         for words, status, said in (
-                ([""], 2, "actrun: report: .*: Is a directory: name a file"), (["/dev/null"], 2, "actrun: report: /dev/null: this is no regular file"),
+                ([""], 2, "actrun: report: .*: Is a directory: name a file"), (["/dev/null"], 2, "actrun: report: /dev/null: this is not a regular file"),
                 (["r", "-o", "/dev/full"], 3, "actrun: report: /dev/full: No space left on device"),
                 (["r", "--seconds", "1"], 2, "unrecognized arguments: --seconds 1"), (["r", "--around", "x"], 2, "argument --around: .*'x'")):
             done = ask(*words)
@@ -266,6 +266,18 @@ class Seen(Browsing):
         self.assertIn("It is written at place 6", self.js(said))
         self.quiet()
 
+    def test_files_that_a_step_changed(self) -> None:
+        record = self.recorded("files", plan_of("ci", ["job"], [step("one"), step("two", "exit 1")]))
+        files = {"0-0": [("A", "<b>new\x1b"), ("D", "old")], "0-1": []}
+        with mock.patch("actrun_front.changed_files.of_record", return_value=files):
+            self.open(self.page(record))
+        self.assertIsNone(self.js("return document.querySelector('#files')"))
+        self.js("[...document.querySelectorAll('#rows .row .name')].find((it) => it.textContent === 'one').click()")
+        self.assertEqual(self.js("return document.querySelector('#files').textContent"), "A <b>new\u241b\nD old")
+        self.press(Keys.HOME)
+        self.assertIsNone(self.js("return document.querySelector('#files')"))
+        self.quiet()
+
     def test_hostile_names_are_texts(self) -> None:
         steps = [step(name, f"echo {at}; echo \"X<b>=<i>$0\" >> $GITHUB_ENV; false") for at, name in enumerate(HOSTILE)]
         record = self.recorded("hostile", plan_of(HOSTILE[0], HOSTILE, steps))
@@ -321,8 +333,8 @@ class Seen(Browsing):
         total = record.read_bytes().count(b"\n") - 1
         with mock.patch.object(report_data, "MOST", 300):
             page = self.page(record)
-            around = report.shown(PROGRAM, record, around=200)
-            early = report.shown(PROGRAM, record, around=20)
+            around = report.shown(report.read_record(PROGRAM, record), record, around=200)
+            early = report.shown(report.read_record(PROGRAM, record), record, around=20)
         shown = json.loads(re.search(r'id="data">(.*)</script>\n<script>', page.read_text(encoding="utf-8"))[1])
         self.assertEqual([shown[it] for it in ("first", "last", "total")], [total - 300, total, total])
         self.assertEqual([around[it] for it in ("first", "last")], [50, 350])

@@ -5,6 +5,7 @@ import json
 import shlex
 import subprocess
 import unittest
+from collections import Counter
 from pathlib import Path
 from typing import Any
 
@@ -115,13 +116,13 @@ def great(legs: int, steps: int) -> dict[str, Any]:
     return {"title": "great: failure", "record": "great", "repository": "", "around": None,
             "total": len(changes), "first": 0, "last": len(changes), "runs": [["great", names]],
             "texts": texts, "base": base, "steps": changes, "entries": entries, "jobs": jobs, "displaced": {},
-            "why": {}, "logs": None,
+            "why": {}, "values": {}, "logs": None,
             "times": {"start": 1795800000000, "entries": [at * 3 for at in range(len(entries))]}}
 
 
 @NEEDS_PROGRAM
 class Asked(ReportCase):
-    def test_three_starts_give_the_same_bytes(self) -> None:
+    def test_few_starts_give_the_same_bytes(self) -> None:
         """However many parts the record has, and however long an answer takes."""
         starts, program = self.room / "starts", self.room / "slow"
         program.write_text(f'#!/bin/sh\necho "$1" >> {shlex.quote(str(starts))}\nsleep 0.3\n'
@@ -130,7 +131,8 @@ class Asked(ReportCase):
         for name in ("nightly", "deploy", "displaced", "cancelled"):
             starts.write_text("")
             first = report.page(str(program), EXAMPLES / f"{name}.record")
-            self.assertEqual(sorted(starts.read_text().split()), ["replay", "timeline", "why"])
+            started = Counter(starts.read_text().split())
+            self.assertEqual(started - Counter(eval=1), Counter(replay=1, why=1))
             self.assertEqual(report.page(PROGRAM, EXAMPLES / f"{name}.record"), first)
 
     def test_names_and_conditions_that_look_like_reasons(self) -> None:
@@ -140,10 +142,14 @@ class Asked(ReportCase):
         jobs = plan["runs"][0]["jobs"]
         jobs[0]["condition"] = "github.none == ' (above)'"
         record = self.recorded("names", plan)
-        found = report.shown(PROGRAM, record)["why"]
-        self.assertEqual(list(found), ["run 0", "job 1", "leg 1", "step 1 0", "job 0"])
-        for words, text in found.items():
-            self.assertEqual(why(record, words), text + "\n")
+        found = report.shown(report.read_record(PROGRAM, record), record)["why"]
+        self.assertEqual(list(found), ["run 0", "job 0", "job 1", "leg 0", "leg 1", "step 1 0"])
+        self.assertEqual(found["job 1"][2], ["leg 1"])
+        for words, (name, said, because) in found.items():
+            lines = why(record, words).split("\n")
+            self.assertEqual(name + said, lines[0])
+            causes = [line[2:] for line in lines if line.startswith("  ") and not line.startswith("   ")]
+            self.assertEqual([found[cause][0] + found[cause][1] for cause in because], causes)
 
     def test_a_command_that_fails_is_said(self) -> None:
         program = self.room / "broken"
@@ -227,23 +233,23 @@ class Used(Browsing):
         self.quiet()
 
     def test_reasons_are_those_of_why(self) -> None:
-        """Of each part that `why` names in a tree; of all others that did not succeed the command is shown."""
+        """Of each part that did not succeed; of a step that never began the command is shown."""
         shown = "return document.querySelector('#details .kind').textContent"
         for name in ("fail-fast", "cancelled", "cancel-in-progress", "group-faulted", "displaced-leg", "deploy"):
             record = EXAMPLES / f"{name}.record"
             page = self.page(record)
             self.open(page)
-            for words in report.shown(PROGRAM, record)["why"]:
+            for words in report.shown(report.read_record(PROGRAM, record), record)["why"]:
                 if words.startswith("stop "):
                     continue
                 kind, *numbers = words.split()
                 self.js(f"location.hash = '#99999/{'-'.join([kind, *numbers])}'")
                 self.wait_for(lambda: self.js(shown).startswith(f"{kind} {numbers[-1]}"))
                 self.assertEqual(self.text("#why") + "\n", why(record, words), (name, words))
-        self.open(self.page(EXAMPLES / "cancelled.record"), "#99/step-0-1")
+        self.open(self.page(EXAMPLES / "displaced.record"), "#99/step-1-0")
         command = shlex.split(self.text("#details .ask code"))
-        self.assertEqual(command, ["actrun", "why", str(EXAMPLES / "cancelled.record"), "step", "0", "1"])
-        self.assertIn("step 1", why(EXAMPLES / "cancelled.record", "step 0 1"))
+        self.assertEqual(command, ["actrun", "why", str(EXAMPLES / "displaced.record"), "step", "1", "0"])
+        self.assertIn("step 0", why(EXAMPLES / "displaced.record", "step 1 0"))
 
     def test_a_step_of_the_record_shows_what_changed(self) -> None:
         self.open(self.nightly(), "#21/run-0")

@@ -231,7 +231,7 @@ class Drawn(unittest.TestCase):
                               cwd=self.room, env={**os.environ, "ACTRUN_PROGRAM": PROGRAM})
         os.close(writer)
         self.assertEqual((done.returncode, done.stdout), (3, b""))
-        self.assertEqual(os.read(reader, 4096).decode().replace("\r\n", "\n"), "actrun: io\n  none is not there\n")
+        self.assertEqual(os.read(reader, 4096).decode().replace("\r\n", "\n"), "actrun: io\n  none does not exist\n")
         os.close(reader)
 
     def test_a_run_is_drawn_by_its_times(self) -> None:

@@ -2,10 +2,8 @@
 from __future__ import annotations
 
 import argparse
-import contextlib
 import dataclasses
 import fcntl
-import io
 import os
 import signal
 import tempfile
@@ -18,7 +16,7 @@ from actrun_front.contexts import Play, contexts, excluded, matches, payload, re
 from actrun_front.environment import PASSED, settle
 from actrun_front.execute import Execution, read_progress
 from actrun_front.planning import Flow, job_rows
-from actrun_front.present import Board, Screen, legs_of, mask, one_line, placed, summaries, table
+from actrun_front.present import Board, Screen, legs_of, mask, one_line, summaries, table
 from actrun_front.keeping import PROTECTED, boot
 from actrun_front.tree import Facts, Room, clean, find_project, find_top, make_room, parse_remote, read_facts, short_name, write_config
 from actrun_front.yaml_reader import read_document
@@ -178,6 +176,13 @@ class Contexts(TryCase):
         play = self.play(event, data)
         return excluded(play, filters, contexts(play, "ci.yml", {"on": {event: filters}})["github"]) is not None
 
+    def test_filters_of_a_workflow_that_ran(self) -> None:
+        data = {"workflow_run": {"name": "Build", "head_branch": "dev"}}
+        for filters, kept in (({"workflows": ["Build", "Test"]}, False), ({"workflows": ["Test"]}, True), ({"branches": ["main"]}, True),
+                              ({"workflows": ["Build"], "branches": ["d*"]}, False), ({"branches-ignore": ["dev"]}, True)):
+            self.assertEqual(self.keeps("workflow_run", data, **filters), kept, filters)
+        self.assertFalse(self.keeps("workflow_run", {}, workflows=["Test"], branches=["main"]))
+
     def test_filters_of_paths(self) -> None:
         self.assertFalse(self.keeps("push", paths=["oth*"]))
         self.assertTrue(self.keeps("push", paths=["src/**"]))
@@ -223,6 +228,15 @@ class Contexts(TryCase):
         found = contexts(self.play("push", secrets={"GITHUB_TOKEN": "t0ken"}), "ci.yml", {})
         self.assertEqual((found["github"]["token"], found["secrets"]), ("t0ken", {"GITHUB_TOKEN": "t0ken"}))
         self.assertEqual(contexts(self.play("push"), "ci.yml", {})["secrets"], {"GITHUB_TOKEN": ""})
+
+    def test_a_repository_that_is_nowhere_hosted(self) -> None:
+        self.git("remote", "remove", "origin")
+        github = contexts(self.play("push"), "ci.yml", {})["github"]
+        owner, name = github["repository"].split("/")
+        self.assertEqual((owner, name), (github["repository_owner"], self.project.name))
+        self.assertEqual(github["event"]["repository"]["full_name"], github["repository"])
+        self.assertEqual(github["event"]["repository"]["html_url"], "")
+        self.assertEqual(github["workflow_ref"], f"{owner}/{name}/ci.yml@refs/heads/main")
 
     def test_numbers_of_users_and_repositories(self) -> None:
         first, second = (contexts(self.play("push"), "ci.yml", {})["github"] for _ in range(2))
@@ -277,7 +291,7 @@ class Inputs(unittest.TestCase):
         self.assertEqual(read_inputs({"inputs": {"a": {"type": ["boolean"]}}}, {}, "ci.yml"), {"a": ""})
 
     def test_wrong(self) -> None:
-        for values, text in (({"dry": "maybe"}, "dry is maybe, no truth value"), ({"count": "one"}, "count is one, no number: --input count=1"),
+        for values, text in (({"dry": "maybe"}, "dry is maybe, no boolean"), ({"count": "one"}, "count is one, no number: --input count=1"),
                              ({"level": "mid"}, "level is mid, which is none of low, high")):
             with self.assertRaisesRegex(Problem, text):
                 read_inputs(self.TRIGGER, values, "ci.yml")
@@ -397,9 +411,9 @@ class Signals(unittest.TestCase):
     def test_what_the_caller_ignores_stays_ignored(self) -> None:
         self.addCleanup(signal.signal, signal.SIGHUP, signal.signal(signal.SIGHUP, signal.SIG_IGN))
         lines: list[str] = []
-        board = argparse.Namespace(progress=lines.append, output=lambda line: (os.kill(os.getpid(), signal.SIGHUP), lines.append(line)))
+        board = argparse.Namespace(progress=lambda line: (os.kill(os.getpid(), signal.SIGHUP), lines.append(line)))
         execution = Execution(None, board)
-        self.assertEqual(execution.run(["/bin/sh", "-c", "echo begun; sleep 0.2; echo through"], {}, Path("/dev/null")), 0)
+        self.assertEqual(execution.run(["/bin/sh", "-c", "{ echo begun; sleep 0.2; echo through; } >&2"], {}, Path("/dev/null")), 0)
         self.assertEqual((lines, execution.signals), (["begun", "through"], []))
 
 
@@ -420,23 +434,6 @@ class Shown(unittest.TestCase):
                          (0, 1, "refused", "its file of outputs cannot be read: Is a directory", ""))
         self.assertIsNone(read_progress("actrun: io"))
 
-    def test_a_reason_with_a_secret_is_masked(self) -> None:
-        board = Board(Screen(), legs_of({"runs": [{"jobs": [{"name": "j", "legs": [{}], "steps": [{"name": "it", "work": {}}]}]}]}), "mark", ["s"])
-        with contextlib.redirect_stderr(io.StringIO()) as shown:
-            board.progress(mask("leg 0 (j) step 0 of 1 not started: it (/a/s is not there), 1 of 1 steps", ["s"]))
-        self.assertEqual(shown.getvalue().split(" ", 1)[1], "j: it, not ***tarted: /a/*** i*** not there\n")
-
-    def test_secrets_that_the_mark_of_a_step_has(self) -> None:
-        steps = [{"name": name, "work": {}} for name in ("first", "second")]
-        legs = legs_of({"runs": [{"jobs": [{"name": "j", "legs": [{}], "steps": steps}]}]})
-        for secrets, title in (([], "j: second"), (["ark"], "j: second"), (["ark", "0"], "j: second"),
-                               (["0", "1"], "one of 2 steps, whose numbers secrets mask")):
-            board = Board(Screen(), legs, "mark", secrets)
-            with contextlib.redirect_stdout(io.StringIO()) as shown:
-                board.show(mask("mark:0-1", secrets))
-                board.show("text")
-            self.assertEqual(shown.getvalue().strip(), f"--- {title}\ntext")
-
     def test_mask_takes_the_longest(self) -> None:
         self.assertEqual(mask("abcd abc x", ["abc", "abcd", ""]), "*** *** x")
 
@@ -450,10 +447,12 @@ class Shown(unittest.TestCase):
     def test_only_files_of_steps_are_summaries(self) -> None:
         legs = legs_of({"runs": [{"jobs": [{"name": "a", "legs": [{}], "steps": [{"name": "s", "work": {}}]}]}]})
         with tempfile.TemporaryDirectory() as room:
-            for name in ("summary", "summary-0-0", "summary-0-0.1", "summary-0-0-0", "summary-0-1", "summary-1-0", "summary-0", "summary-x-0"):
+            for name in ("summary", "summary-0-0", "0/summary-0-0", "0/summary-0-0.1", "0/summary-0-0-0", "0/summary-0-1", "1/summary-1-0",
+                         "0/summary-1-0", "0/summary-0", "0/summary-x-0"):
+                Path(room, name).parent.mkdir(exist_ok=True)
                 Path(room, name).write_text(f"{name}\n", encoding="utf-8")
             found = list(summaries(Path(room), [], Board(Screen(), legs, "")))
-        self.assertEqual(found, [("summary", "summary"), ("summary of a: s", "summary-0-0")])
+        self.assertEqual(found, [("summary", "summary"), ("summary of a: s", "0/summary-0-0")])
 
     def test_jobs_by_stages(self) -> None:
         text = ("name: CI\non: [push]\njobs:\n  last: {needs: [one, two]}\n  one: {name: First}\n  two: {needs: one}\n"
@@ -463,7 +462,7 @@ class Shown(unittest.TestCase):
                                                         ("2", "last", "last"), ("3", "four", "four")])
         self.assertEqual(rows[1][3:], ("CI", "ci.yml", "push"))
 
-    def test_places_in_yaml(self) -> None:
+    def test_names_of_legs(self) -> None:
         job = {"number": 1, "id": "test", "name": "Tests", "legs": [{}], "steps": []}
         legs = legs_of({"runs": [{"jobs": [{**job, "number": 0, "legs": [{"v": 1}]}]}, {"jobs": [job]}]})
         self.assertEqual([leg.name for leg in legs], ["Tests (1)", "Tests"])
@@ -476,10 +475,6 @@ class Shown(unittest.TestCase):
         named = legs_of({"runs": [{"jobs": [{**job, "name": name, "legs": [{"v": it} for it in values]} for name in ("Tests", "On ${{ matrix.v }}")]}]})
         self.assertEqual([leg.name for leg in named], [form.format(text).strip() for form in ("Tests ({})", "On {}")
                                                        for text in ("true", "", "Object", "Array", "7", "x")])
-        lines = ["run 1 (CI) failed at line 3", "  job 1 (Tests) failed", "    leg 1 (Tests) ended failure at line 2",
-                 "      step 0 (x) failed at line 1: the program ended with 1", "job 0 (Tests) (above)"]
-        found = list(placed(lines, legs, lambda run, name, step: f"{run} {name} {step}"))
-        self.assertEqual(found, [lines[0], lines[1] + "  [1 test None]", lines[2], lines[3] + "  [1 test 0]", lines[4] + "  [0 test None]"])
 
 
 class Rooms(TryCase):

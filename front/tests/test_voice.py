@@ -3,13 +3,14 @@ from __future__ import annotations
 
 import json
 import os
+import shutil
 import subprocess
 import sys
 import unittest
 from pathlib import Path
 
 from actrun_front.notes import kind, lines
-from actrun_front.present import cut, placed
+from actrun_front.present import cut
 from actrun_front.yaml_reader import Note
 
 from .terminal_case import TerminalCase
@@ -59,10 +60,6 @@ class Conditions(unittest.TestCase):
     def test_they_are_cut(self) -> None:
         self.assertEqual(cut("a &&\n  b\n"), "a && …")
         self.assertEqual(cut("a\n"), "a")
-        line = "step 0 (a␊b) was skipped at line 3: its condition is not true: x &&␊y"
-        self.assertEqual(list(placed([line, "step 1 (a␊b) failed"], [], lambda *_: "")),
-                         ["step 0 (a␊b) was skipped at line 3: its condition is not true: x && …",
-                          "step 1 (a␊b) failed"])
 
 
 @NEEDS_PROGRAM
@@ -81,12 +78,26 @@ class Next(TryCase):
         self.workflow("- run: exit 1")
         done = self.attempt()
         self.assertTrue(done.stdout.endswith("\nopen      actrun open\nwalk      actrun debug --last\n"
+                                             "back      actrun try --from failed\n"
                                              "again     actrun try -j one\n"), done.stdout)
         self.workflow("- run: 'true'", "on: [push, pull_request]\njobs:\n  ab:\n    runs-on: x\n    steps:\n")
         done = self.attempt("pull_request")
         self.assertNotIn("again ", done.stdout)
         self.workflow("- run: 'false'", "on: [pull_request]\njobs:\n  ab:\n    runs-on: x\n    steps:\n")
         self.assertIn("again     actrun try pull_request -j ab\n", self.attempt("pull_request").stdout)
+
+    def test_the_program_is_started_four_times(self) -> None:
+        """Each time for another question."""
+        shutil.copytree(FRONT.parent / "examples" / "repository", self.project, dirs_exist_ok=True)
+        self.commit()
+        starts, program = self.room / "starts", self.room / "program"
+        program.write_text(f'#!/bin/sh\necho "$1" >> {starts}\nexec {PROGRAM} "$@"\n')
+        program.chmod(0o755)
+        for event in ("push", "pull_request"):
+            starts.write_text("")
+            done = self.attempt(event, "--no-sandbox", ACTRUN_PROGRAM=str(program))
+            self.assert_status(done, 0)
+            self.assertEqual(starts.read_text().split(), ["plan", "run", "why", "replay"])
 
     def test_the_last_execution(self) -> None:
         self.workflow("- run: echo hi\n- run: exit 3")

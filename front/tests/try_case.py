@@ -3,6 +3,7 @@ from __future__ import annotations
 
 import functools
 import os
+import re
 import shutil
 import subprocess
 import sys
@@ -27,6 +28,11 @@ def sandbox_works() -> bool:
     """Whether bwrap can make a room here."""
     words = ["bwrap", "--ro-bind", "/", "/", "--proc", "/proc", "--unshare-pid", "/bin/true"]
     return shutil.which("bwrap") is not None and subprocess.run(words, capture_output=True, check=False).returncode == 0
+
+
+def unprefixed(text: str) -> str:
+    """Lines without the names of leg and step before them, behind an empty one."""
+    return re.sub(r"(?m)^[^|\n]*?: .*? \| ", "", f"\n{text}")
 
 
 class TryCase(unittest.TestCase):
@@ -88,6 +94,10 @@ class TryCase(unittest.TestCase):
     def assert_status(self, done: subprocess.CompletedProcess[str], status: int) -> None:
         """Fails with both outputs where the status is another."""
         self.assertEqual(done.returncode, status, f"\n{done.stdout}\n--- standard error\n{done.stderr}")
+
+    def printed(self, done: subprocess.CompletedProcess[str]) -> str:
+        """What steps printed and the rest of standard output, without the names before each line."""
+        return unprefixed(done.stdout)
 
     def work(self) -> Path:
         """The only work folder there is."""
