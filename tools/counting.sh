@@ -50,7 +50,7 @@ need_packages() {
   # (nor needs an ordinary test an engine for containers)
   if [ -n "${ACTRUN_ALL_TESTS-}" ]; then
     for name in podman:podman runc:runc fuse-overlayfs:fuse-overlayfs newuidmap:uidmap busybox:busybox-static redis-server:redis-server \
-      slirp4netns:slirp4netns debootstrap:debootstrap; do
+      slirp4netns:slirp4netns debootstrap:debootstrap nvim:neovim; do
       command -v "${name%:*}" >/dev/null || missing+=("${name#*:}")
     done
   fi

@@ -21,7 +21,7 @@ except ImportError:  # (before Python 3.11)
 EDITORS = FRONT.parent / "editors"
 NEOVIM = shutil.which("nvim")
 OF_CLIENT = {"name", "type", "request", "__sessionId"}  # what clients add
-# what each client sends first, as its sources have it
+# what each client is expected to send first; no client was compared
 BEGINNINGS: dict[str, dict[str, Any]] = {
     "vscode": {"clientID": "vscode", "clientName": "Visual Studio Code", "adapterID": "actrun", "pathFormat": "path",
                "linesStartAt1": True, "columnsStartAt1": True, "supportsVariableType": True,
